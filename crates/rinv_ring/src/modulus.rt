@@ -1,0 +1,157 @@
+//! The numbers modulo one of six primes, in machine words.
+
+ghost use Rattle.std.specs.Prelude.{◌≡◌, ◌<◌, ◌≤◌, ◌+◌, ◌*◌, ◌-◌, ◌%◌, ◌↔◌, ℕ, IsTrue, IsOk, IfOk, IsErrOf, nat_lt};
+ghost use Rattle.rinv_algebra.specs.Residue.{is_listed, residue_ops};
+ghost use Rattle.rinv_algebra.proofs.ResidueLaws.{residue_laws};
+
+use crate::fault::RingFault;
+use crate::rings::Ring;
+use std::alloc::{AllocError as NoMemory, Global};
+use std::marker::Model;
+use thiserror::Error;
+
+/// Why a number is no modulus of a field.
+#[derive(Clone, Copy, Debug, PartialEq, Eq, Error)]
+pub enum FieldFault {
+    #[error("the modulus is below 2")]
+    TooSmall,
+    #[error("the modulus is over 32003")]
+    TooLarge,
+    #[error("the modulus is none of 2, 3, 5, 7, 101 and 32003")]
+    NotListed,
+}
+
+/// The field of the numbers modulo one of six primes. An element is a `u32` below the modulus.
+#[derive(Clone, Copy, Debug)]
+pub struct Gf {
+    modulus: u32,
+}
+
+impl Model for Gf {
+    ghost use Rattle.std.specs.Prelude.{ℕ, IsTrue};
+    ghost use Rattle.rinv_algebra.specs.Residue.{is_listed};
+
+    ghost Value = { ℕ };
+
+    ghost view = { λ g. g.modulus };
+
+    ghost invariant = { λ g. IsTrue (is_listed g.modulus) };
+
+    ghost inverse = { λ n. record { modulus = n } };
+}
+
+impl Gf {
+    /// The field of the numbers modulo `p`.
+    pub fn new(p: u64) -> Result<Gf, FieldFault>
+        ensures ok { IfOk result (λ g. g ≡ p) }
+        ensures listed { IsOk result ↔ IsTrue (is_listed p) }
+        ensures small { IsErrOf result FieldFault.TooSmall ↔ (p < 2) }
+        ensures large { IsErrOf result FieldFault.TooLarge ↔ (32003 < p) }
+    {
+        if p < 2 {
+            return Err(FieldFault::TooSmall);
+        }
+        if p > 32003 {
+            return Err(FieldFault::TooLarge);
+        }
+        let modulus = p as u32;
+        match modulus {
+            2 | 3 | 5 | 7 | 101 | 32003 => Ok(Gf { modulus }),
+            _ => Err(FieldFault::NotListed),
+        }
+    }
+
+    /// The modulus.
+    pub fn modulus(&self) -> u32
+        ensures value { result ≡ self.now }
+        ensures listed { IsTrue (is_listed self.now) }
+        ensures least { 2 ≤ self.now }
+        ensures greatest { self.now ≤ 32003 }
+    {
+        self.modulus
+    }
+
+    /// The sum modulo p.
+    pub fn add(&self, a: u32, b: u32) -> u32
+        requires left { a < self.now }
+        requires right { b < self.now }
+        ensures value { result ≡ (a + b) % self.now }
+        ensures element { result < self.now }
+    {
+        let p = self.modulus();
+        (a + b) % p
+    }
+
+    /// The difference modulo p.
+    pub fn sub(&self, a: u32, b: u32) -> u32
+        requires left { a < self.now }
+        requires right { b < self.now }
+        ensures value { result ≡ (a + (self.now - b)) % self.now }
+        ensures element { result < self.now }
+    {
+        let p = self.modulus();
+        (a + (p - b)) % p
+    }
+
+    /// The product modulo p.
+    pub fn mul(&self, a: u32, b: u32) -> u32
+        requires left { a < self.now }
+        requires right { b < self.now }
+        ensures value { result ≡ (a * b) % self.now }
+        ensures element { result < self.now }
+    {
+        let p = self.modulus();
+        (a * b) % p
+    }
+}
+
+impl Ring for Gf {
+    type Elem = u32;
+
+    ghost ops = { residue_ops };
+
+    ghost is_element = { λ p a. nat_lt a p };
+
+    ghost too_high = { λ _ _ _ _ _ _. ⊥ };
+
+    ghost laws = { residue_laws };
+
+    fn zero(&self, _alloc: Global) -> Result<u32, NoMemory> {
+        let _p = self.modulus();
+        Ok(0)
+    }
+
+    fn one(&self, _alloc: Global) -> Result<u32, NoMemory> {
+        let _p = self.modulus();
+        Ok(1)
+    }
+
+    fn add(&self, _alloc: Global, a: &u32, b: &u32) -> Result<u32, RingFault> {
+        let _p = self.modulus();
+        Ok(self.add(*a, *b))
+    }
+
+    fn sub(&self, _alloc: Global, a: &u32, b: &u32) -> Result<u32, RingFault> {
+        let _p = self.modulus();
+        Ok(self.sub(*a, *b))
+    }
+
+    fn mul(&self, _alloc: Global, a: &u32, b: &u32) -> Result<u32, RingFault> {
+        let _p = self.modulus();
+        Ok(self.mul(*a, *b))
+    }
+
+    fn is_zero(&self, a: &u32) -> bool {
+        let _p = self.modulus();
+        *a == 0
+    }
+
+    fn same(&self, _alloc: Global, a: &u32, b: &u32) -> Result<bool, RingFault> {
+        let _p = self.modulus();
+        Ok(*a == *b)
+    }
+
+    fn copy(&self, _alloc: Global, a: &u32) -> Result<u32, NoMemory> {
+        Ok(*a)
+    }
+}
