@@ -8,5 +8,4 @@ mod rings;
 pub use fault::RingFault;
 pub use modulus::{FieldFault, Gf};
 pub use rings::{Field, Ring};
-
 pub use std::alloc::AllocError as NoMemory;
