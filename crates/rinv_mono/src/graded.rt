@@ -1,6 +1,6 @@
 //! Graded reverse lexicographic order.
 
-ghost use Rattle.std.specs.Prelude.{◌≡◌, length, ⊤};
+ghost use Rattle.std.specs.Prelude.{◌≡◌, length, slice_index, ⊤};
 ghost use Rattle.rinv_algebra.specs.Order.{grevlex, last_cmp};
 ghost use Rattle.rinv_algebra.proofs.Grevlex.{grevlex_laws, grevlex_ties};
 
@@ -22,7 +22,10 @@ impl MonoOrder for Grevlex {
 
     ghost ties = { λ _ a b same _ e. grevlex_ties a b same e };
 
-    fn compare(&self, a: &Mono, b: &Mono) -> Ordering {
+    // Lists count as zeros past their end, so any two monomials compare.
+    fn compare(&self, a: &Mono, b: &Mono) -> Ordering
+        ensures { result ≡ grevlex a.now b.now }
+    {
         let left = a.degree();
         let right = b.degree();
         if left < right {
@@ -37,18 +40,29 @@ impl MonoOrder for Grevlex {
 
 // The last variable in which the two differ decides: the smaller exponent is greater.
 pub(crate) fn last_difference(left: &[u32], right: &[u32]) -> Ordering
-    requires { length left.now ≡ length right.now }
     ensures { result ≡ last_cmp left.now right.now }
 {
-    let mut k = left.len();
+    let mut k = left.len().max(right.len());
     'places: while k > 0 {
         k -= 1;
-        if left[k] < right[k] {
+        let a = exponent_at(left, k);
+        let b = exponent_at(right, k);
+        if a < b {
             return Ordering::Greater;
         }
-        if right[k] < left[k] {
+        if b < a {
             return Ordering::Less;
         }
     }
     Ordering::Equal
+}
+
+// The exponent at a place, which is 0 past the end.
+fn exponent_at(exponents: &[u32], k: usize) -> u32
+    ensures { result ≡ slice_index exponents.now k }
+{
+    match exponents.get(k) {
+        Some(exponent) => *exponent,
+        None => 0,
+    }
 }
