@@ -45,9 +45,9 @@ grown a (m ∷ ms) = let h = grown (max a (total_degree m)) ms in omega (arith, 
 fold-bound : (test : List ℕ → Bool) (a d : ℕ) → a ≤ d → ((m : List ℕ) → test m ≡ true → total_degree m ≤ d) → (ms : List (List ℕ)) → fold max a (map total_degree (filter test ms)) ≤ d
 fold-bound test a d low h [] = low
 fold-bound test a d low h (m ∷ ms) = elim (cases_Bool (test m)) [
-    | inl e ↦ rw e (fold-bound test (max a (total_degree m)) d (let k = h m e in omega (arith, k)) h ms)
-    | inr e ↦ rw e (fold-bound test a d low h ms)
-  ]
+  | inl e ↦ rw e (fold-bound test (max a (total_degree m)) d (let k = h m e in omega (arith, k)) h ms)
+  | inr e ↦ rw e (fold-bound test a d low h ms)
+]
 
 module _ {E : Type 0} (o : RingOps E) (l : RingLaws o) where
   -- a test of sameness answers one thing for what is the same

@@ -1,10 +1,10 @@
 -- Graded reverse lexicographic order is an order of monomials: on lists of at most n exponents it is the order of one block of n.
-use Rattle.std.proofs.Common.{◌≡◌, ℕ, zero, suc, ◌+◌, ◌≤◌, List, [], ◌∷◌, ◌++◌, length, min, take, drop, sum, refl, sym, ap, ◌∙◌, arith}
+use Rattle.std.proofs.Common.{◌≡◌, ℕ, ◌+◌, ◌≤◌, List, [], ◌∷◌, ◌++◌, length, min, take, drop, sum, refl, sym, ap, ◌∙◌, arith}
 use mathlib.Core.Bool.{true≢false}
 use mathlib.Core.WellFounded.{WellFounded}
 use mathlib.Core.WellFounded.Subrelation as Subrelation
 use Rattle.std.proofs.lemmas.Bool.Decides.{nat_tests}
-use Rattle.std.proofs.lemmas.List.{take-append-drop, length-take, length-drop}
+use Rattle.std.proofs.lemmas.List.{take-append-drop, take_all, length-take, length-drop}
 use Rattle.std.proofs.lemmas.List.Sums.{sum_by-cons}
 use Rattle.std.specs.Ordering.{nat_cmp, ordering_then, ordering_reverse, is_eq}
 use Rattle.std.specs.declared.cmp.Ordering.{Ordering}
@@ -15,12 +15,6 @@ use Rattle.rinv_algebra.specs.MonomialOrder.{MonoOrderLaws}
 use Rattle.rinv_algebra.proofs.KeyOrder.{then-equal}
 use Rattle.rinv_algebra.proofs.BlockOrder.{block_order_laws, block_order_well_founded}
 
-take-all : (n : ℕ) (a : List ℕ) → length a ≤ n → take n a ≡ a
-take-all zero [] le = refl
-take-all zero (x ∷ a) le = absurd (omega arith)
-take-all (suc n) [] le = refl
-take-all (suc n) (x ∷ a) le = ap (λ (r : List ℕ). x ∷ r) (take-all n a (omega arith))
-
 length-product-le : (a b : List ℕ) → length (monomial_product a b) ≤ length a + length b
 unfolding monomial_product
 length-product-le [] b = omega arith
@@ -30,7 +24,7 @@ length-product-le (x ∷ a) (y ∷ b) = let h = length-product-le a b in omega a
 grevlex-one_block : (n : ℕ) (a b : List ℕ) → length a ≤ n → length b ≤ n → grevlex a b ≡ block_order (n ∷ []) a b
 unfolding block_order
 grevlex-one_block n a b la lb =
-    ap (λ (c : List ℕ). grevlex c b) (sym (take-all n a la)) ∙ ap (grevlex (take n a)) (sym (take-all n b lb)) ∙ sym (then-equal (grevlex (take n a) (take n b)))
+    ap (λ (c : List ℕ). grevlex c b) (sym (take_all n a la)) ∙ ap (grevlex (take n a)) (sym (take_all n b lb)) ∙ sym (then-equal (grevlex (take n a) (take n b)))
 
 pub grevlex_laws : MonoOrderLaws grevlex
 grevlex_laws = record {

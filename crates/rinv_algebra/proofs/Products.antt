@@ -1,10 +1,11 @@
 -- Repeated products, substitutions and combinations, a step at a time, with the rule on degrees.
 --   times_all-append, products_fit-append      some of the factors, and then the others
 --   times_all-same, products_fit-same          they depend on the coefficients of the first factor alone
+--   products_fit-push, -stuck, -more, -front   whether more factors fit
 --   factors-take_more                          one variable more
 --   value-append                               a sum over some of the terms, and then the others
 --   combination-push, combination_fits-push    one product more
-use Rattle.std.proofs.Common.{◌≡◌, ℕ, zero, suc, ◌+◌, ◌<◌, Bool, true, false, ◌&&◌, List, [], ◌∷◌, ◌++◌, map, length, get_or, take, refl, sym, ap, ◌∙◌, arith, add-one, append_assoc, append-nil}
+use Rattle.std.proofs.Common.{◌≡◌, ℕ, zero, suc, ◌+◌, ◌<◌, ◌≤◌, Bool, true, false, ◌&&◌, List, [], ◌∷◌, ◌++◌, map, length, get_or, take, drop, refl, sym, ap, ◌∙◌, arith, add-one, append_assoc, append-nil, zero-add}
 use Rattle.std.specs.Prelude.{IsTrue, replicate}
 use Rattle.std.specs.List.{list_all}
 use Rattle.rinv_algebra.specs.Ring.{RingOps, RingLaws, IsSame}
@@ -20,6 +21,14 @@ use Rattle.rinv_algebra.proofs.Degrees.{product_fits-same}
 pub and_assoc : (a b c : Bool) → ((a && b) && c) ≡ (a && (b && c))
 and_assoc true b c = refl
 and_assoc false b c = refl
+
+pub and_false : (b : Bool) → (b && false) ≡ false
+and_false true = refl
+and_false false = refl
+
+pub replicate-split : {A : Type 0} (x : A) (j k : ℕ) → replicate (j + k) x ≡ replicate j x ++ replicate k x
+replicate-split x zero k = ap (λ n. replicate n x) (zero-add k)
+replicate-split x (suc j) k = (let e : suc j + k ≡ suc (j + k) = omega arith in rw e (ap (λ xs. x ∷ xs) (replicate-split x j k)))
 
 pub replicate-more : {A : Type 0} (x : A) (k : ℕ) → replicate (k + 1) x ≡ replicate k x ++ x ∷ []
 replicate-more x k = rw add-one (go x k)
@@ -54,6 +63,15 @@ pub factors-take_more : {A : Type 0} (d : A) (point : List A) (es : List ℕ) (k
     → factors (take (k + 1) point) (take (k + 1) es) ≡ factors (take k point) (take k es) ++ replicate (get_or es k 0) (get_or point k d)
 factors-take_more d point es k a b = rw add-one (factors-take_suc d point es k a b)
 
+-- the factors of some of the variables, and then the others
+pub factors-split : {A : Type 0} (point : List A) (es : List ℕ) (k : ℕ) → k ≤ length point → length point ≡ length es → factors point es ≡ factors (take k point) (take k es) ++ factors (drop k point) (drop k es)
+unfolding factors
+factors-split point es zero a e = refl
+factors-split [] es (suc k) a e = absurd (omega arith)
+factors-split (x ∷ point) [] (suc k) a e = absurd (omega arith)
+factors-split (x ∷ point) (n ∷ es) (suc k) a e =
+    ap (λ xs. replicate n x ++ xs) (factors-split point es k (omega arith) (omega (arith, e))) ∙ sym (append_assoc (replicate n x) (factors (take k point) (take k es)) _)
+
 -- a sum over some of the terms, and then the others
 pub value-append : {E A : Type 0} (o : RingOps A) (l : RingLaws o) (embed : E → A) (point : List A) (f g : Polynomial E) → IsSame o (value o embed point (f ++ g)) (o.add (value o embed point f) (value o embed point g))
 unfolding value
@@ -76,6 +94,31 @@ module _ {E : Type 0} (o : RingOps E) (l : RingLaws o) where
       let p = poly_laws o l in
       let rest = products_fit-same (product o f g) (product o f' g) gs (p.mul_same f f' g g e (p.same_refl g)) in
       rw (product_fits-same o l f f' g g e (p.same_refl g), rest) refl
+
+  -- all of the factors fit where some do, and then one more
+  pub products_fit-push : (f h : Polynomial E) (gs : List (Polynomial E)) (g : Polynomial E) → IsSame (poly_ops o) h (times_all (poly_ops o) f gs) → products_fit o f gs ≡ true → product_fits o h g ≡ true → products_fit o f (gs ++ g ∷ []) ≡ true
+  unfolding products_fit
+  products_fit-push f h gs g s a b =
+      let p = poly_laws o l in
+      let here : product_fits o (times_all (poly_ops o) f gs) g ≡ true = sym (product_fits-same o l h (times_all (poly_ops o) f gs) g g s (p.same_refl g)) ∙ b in
+      products_fit-append f gs (g ∷ []) ∙ rw (a, here) refl
+
+  -- they do not where one more does not
+  pub products_fit-stuck : (f h : Polynomial E) (gs : List (Polynomial E)) (g : Polynomial E) (hs : List (Polynomial E)) → IsSame (poly_ops o) h (times_all (poly_ops o) f gs) → product_fits o h g ≡ false → products_fit o f (gs ++ g ∷ hs) ≡ false
+  unfolding products_fit
+  products_fit-stuck f h gs g hs s b =
+      let p = poly_laws o l in
+      let here : product_fits o (times_all (poly_ops o) f gs) g ≡ false = sym (product_fits-same o l h (times_all (poly_ops o) f gs) g g s (p.same_refl g)) ∙ b in
+      products_fit-append f gs (g ∷ hs) ∙ rw here (and_false (products_fit o f gs))
+
+  -- many factors more
+  pub products_fit-more : (f h : Polynomial E) (gs hs : List (Polynomial E)) (b : Bool) → IsSame (poly_ops o) h (times_all (poly_ops o) f gs) → products_fit o f gs ≡ true → products_fit o h hs ≡ b → products_fit o f (gs ++ hs) ≡ b
+  products_fit-more f h gs hs b s a e =
+      products_fit-append f gs hs ∙ rw (a, ← products_fit-same h (times_all (poly_ops o) f gs) hs s) e
+
+  -- the first ones do not fit, and so the whole
+  pub products_fit-front : (f : Polynomial E) (gs hs : List (Polynomial E)) → products_fit o f gs ≡ false → products_fit o f (gs ++ hs) ≡ false
+  products_fit-front f gs hs e = products_fit-append f gs hs ∙ rw e refl
 
   -- ---- combinations
 

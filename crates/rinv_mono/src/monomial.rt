@@ -1,10 +1,11 @@
 //! Monomials: lists of exponents, with the degree kept beside them.
 
-ghost use Rattle.std.specs.Prelude.{◌≡◌, ◌<◌, ◌≤◌, ◌+◌, ◌-◌, ◌^◌, ◌↔◌, ℕ, List, length, sum, IsNone, IfSome, IfOk, IfErr, slice_index};
-ghost use Rattle.rinv_algebra.specs.Monomial.{monomial_product, total_degree, max_degree};
+ghost use Rattle.std.specs.Prelude.{◌≡◌, ◌<◌, ◌≤◌, ◌+◌, ◌-◌, ◌^◌, ◌↔◌, ℕ, List, length, IsTrue, IsNone, IfSome, IfOk, IfErr, slice_index};
+ghost use Rattle.rinv_algebra.specs.Monomial.{monomial_product, divides, quotient, lcm, total_degree, max_degree};
 ghost use Rattle.rinv_algebra.specs.Order.{lex};
-ghost use Rattle.rinv_mono.specs.Fault.{DegreesAre};
+ghost use Rattle.rinv_mono.specs.Fault.{DegreesAre, IsOfDegree};
 
+use crate::exponents::{are_at_most, degree_of, differences, maxima, sums};
 use crate::fault::MonoFault;
 use std::alloc::{AllocError as NoMemory, Global};
 use std::cmp::Ordering;
@@ -108,38 +109,48 @@ impl Mono {
                 right: other.degree(),
             });
         }
-        let exponents = sums(alloc, self.exponents.as_slice(), other.exponents.as_slice())?;
+        let exponents = sums(alloc, self.exponents.as_slice(), other.exponents())?;
         Ok(Mono { degree, exponents })
     }
-}
 
-// The sum, if it is within the limit.
-fn degree_of(list: &[u32]) -> Option<u32>
-    ensures some { IfSome result (λ d. (d ≡ total_degree list.now) × (d ≤ max_degree)) }
-    ensures none { IsNone result ↔ (max_degree < total_degree list.now) }
-{
-    let mut degree = 0;
-    for k in 0..list.len() {
-        if list[k] > MAX_DEGREE - degree {
-            return None;
+    /// Whether no exponent is greater than the other's.
+    pub fn divides(&self, other: &Mono) -> bool
+        requires { length self.now ≡ length other.now }
+        ensures { result ≡ divides self.now other.now }
+    {
+        are_at_most(self.exponents(), other.exponents())
+    }
+
+    /// The quotient by a monomial that divides.
+    pub fn quotient(&self, alloc: Global, by: &Mono) -> Result<Mono, NoMemory>
+        requires vars { length self.now ≡ length by.now }
+        requires divides { IsTrue (divides by.now self.now) }
+        ensures value { IfOk result (λ m. m ≡ quotient self.now by.now) }
+        ensures vars { IfOk result (λ m. length m ≡ length self.now) }
+    {
+        let exponents = differences(alloc, self.exponents.as_slice(), by.exponents())?;
+        Ok(Mono {
+            degree: self.degree() - by.degree(),
+            exponents,
+        })
+    }
+
+    /// The least common multiple; Degree exactly where its degree is over the limit, with the degrees of the two.
+    pub fn lcm(&self, alloc: Global, other: &Mono) -> Result<Mono, MonoFault>
+        requires { length self.now ≡ length other.now }
+        ensures value { IfOk result (λ m. m ≡ lcm self.now other.now) }
+        ensures vars { IfOk result (λ m. length m ≡ length self.now) }
+        ensures low { IfOk result (λ _. total_degree (lcm self.now other.now) ≤ max_degree) }
+        ensures degree { IfErr result (DegreesAre (total_degree self.now) (total_degree other.now)) }
+        ensures high { IfErr result (IsOfDegree (total_degree (lcm self.now other.now))) }
+    {
+        let exponents = maxima(alloc, self.exponents.as_slice(), other.exponents())?;
+        match degree_of(&exponents) {
+            Some(degree) => Ok(Mono { degree, exponents }),
+            None => Err(MonoFault::Degree {
+                left: self.degree(),
+                right: other.degree(),
+            }),
         }
-        degree += list[k];
     }
-    Some(degree)
-}
-
-// The sums of the exponents, variable by variable.
-#[tactic(auto, unfolding(rinv_algebra::specs::Monomial::monomial_product))]
-fn sums(alloc: Global, left: &[u32], right: &[u32]) -> Result<Vec<u32>, NoMemory>
-    requires same { length left.now ≡ length right.now }
-    requires low { sum left.now + sum right.now ≤ max_degree }
-    ensures value { IfOk result (λ v. v.items ≡ monomial_product left.now right.now) }
-    ensures total { IfOk result (λ v. sum v.items ≡ sum left.now + sum right.now) }
-    ensures len { IfOk result (λ v. length v.items ≡ length left.now) }
-{
-    let mut out = Vec::with_capacity(alloc, left.len())?;
-    for k in 0..left.len() {
-        out.push(left[k] + right[k])?;
-    }
-    Ok(out)
 }

@@ -1,11 +1,12 @@
 //! The numbers modulo one of six primes, in machine words.
 
-ghost use Rattle.std.specs.Prelude.{◌≡◌, ◌<◌, ◌≤◌, ◌+◌, ◌*◌, ◌-◌, ◌%◌, ◌↔◌, ℕ, IsTrue, IsOk, IfOk, IsErrOf, nat_lt};
+ghost use Rattle.std.specs.Prelude.{◌≡◌, ◌<◌, ◌≤◌, ◌+◌, ◌*◌, ◌-◌, ◌%◌, ◌↔◌, ℕ, IsTrue, IsOk, IfOk, IsErrOf, IsNone, IfSome, nat_lt};
 ghost use Rattle.rinv_algebra.specs.Residue.{is_listed, residue_ops};
 ghost use Rattle.rinv_algebra.proofs.ResidueLaws.{residue_laws};
+ghost use Rattle.rinv_algebra.proofs.ResidueField.{residue_field_laws};
 
 use crate::fault::RingFault;
-use crate::rings::Ring;
+use crate::rings::{Field, Ring};
 use std::alloc::{AllocError as NoMemory, Global};
 use std::marker::Model;
 use thiserror::Error;
@@ -103,6 +104,36 @@ impl Gf {
         let p = self.modulus();
         (a * b) % p
     }
+
+    /// The inverse modulo p; None exactly at 0.
+    pub fn inverse(&self, a: u32) -> Option<u32>
+        requires { a < self.now }
+        ensures none { IsNone result ↔ (a ≡ 0) }
+        ensures value { IfSome result (λ b. (a * b) % self.now ≡ 1) }
+        ensures element { IfSome result (λ b. b < self.now) }
+    {
+        let p = self.modulus();
+        if a == 0 {
+            return None;
+        }
+        // a times the factor is the rest; and p % rest is -(p / rest) times the rest.
+        let mut rest = a;
+        let mut factor = 1;
+        'rests: while rest > 1 {
+            factor = self.mul(self.sub(0, p / rest), factor);
+            rest = p % rest;
+        }
+        Some(factor)
+    }
+
+    /// The residue of a number.
+    pub fn reduce(&self, v: u128) -> u32
+        ensures value { result ≡ v % self.now }
+        ensures element { result < self.now }
+    {
+        let p = self.modulus();
+        (v % p as u128) as u32
+    }
 }
 
 impl Ring for Gf {
@@ -154,4 +185,13 @@ impl Ring for Gf {
     fn copy(&self, _alloc: Global, a: &u32) -> Result<u32, NoMemory> {
         Ok(*a)
     }
+}
+
+impl Field for Gf {
+    fn inverse(&self, _alloc: Global, a: &u32) -> Result<Option<u32>, NoMemory> {
+        let _p = self.modulus();
+        Ok(self.inverse(*a))
+    }
+
+    ghost field_laws = { residue_field_laws };
 }

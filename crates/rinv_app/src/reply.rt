@@ -1,0 +1,75 @@
+//! The answer to the bytes of a certificate: a text and a status, before anything is written.
+
+ghost use Rattle.std.specs.Prelude.{◌≡◌, IfOk, None, codes};
+ghost use Rattle.rinv_defs.specs.Format.{format_failure};
+ghost use Rattle.rinv_defs.specs.Text.{yes_text, no_text, refused_text};
+ghost use Rattle.rinv_cert.specs.Faults.{part_word};
+ghost use Rattle.rinv_app.specs.Run.{IsAnswer};
+
+use crate::fraction::write_lines;
+use crate::status::Status;
+use rinv_cert::{CertFault, CertStop, Certificate, from_json};
+use rinv_check::{FormatStop, Verdict, check, stored};
+use rinv_poly::PolyRing;
+use std::alloc::{AllocError as NoMemory, Global};
+
+/// What is printed for these bytes, and the status.
+pub(crate) fn answer(alloc: Global, bytes: &[u8]) -> Result<(Vec<u8>, Status), NoMemory>
+    ensures { IfOk result (λ a. IsAnswer bytes.now a.0.items a.1) }
+{
+    let certificate = match from_json(alloc, bytes) {
+        Ok(certificate) => certificate,
+        Err(CertStop::Fault(fault)) => {
+            let text = fault_line(alloc, fault)?;
+            return Ok((text, Status::Refused));
+        }
+        Err(CertStop::NoMemory) => return Err(NoMemory),
+    };
+    match check(alloc, &certificate)? {
+        Verdict::Yes => {
+            let text = yes_lines(alloc, &certificate)?;
+            Ok((text, Status::Done))
+        }
+        Verdict::No { condition, index } => {
+            let text = failure_line(alloc, condition, index)?;
+            Ok((text, Status::Denied))
+        }
+    }
+}
+
+// The line of bytes that are no certificate.
+fn fault_line(alloc: Global, fault: CertFault) -> Result<Vec<u8>, NoMemory>
+    ensures { IfOk result (λ v. v.items ≡ refused_text (part_word fault.part) fault.index) }
+{
+    let CertFault { part, index } = fault;
+    let line = format!(in alloc; "refused {part} {index}\n")?;
+    Ok(line.into_bytes())
+}
+
+// The line of a condition that fails.
+fn failure_line(alloc: Global, condition: u32, index: u32) -> Result<Vec<u8>, NoMemory>
+    ensures { IfOk result (λ v. v.items ≡ no_text (condition, index)) }
+{
+    let line = format!(in alloc; "no C{condition} {index}\n")?;
+    Ok(line.into_bytes())
+}
+
+// The lines of an accepted certificate.
+fn yes_lines(alloc: Global, certificate: &Certificate) -> Result<Vec<u8>, NoMemory>
+    requires { format_failure certificate.now ≡ None }
+    ensures { IfOk result (λ v. v.items ≡ yes_text certificate.now) }
+{
+    let parts = match stored(alloc, certificate) {
+        Ok(parts) => parts,
+        Err(FormatStop::NoMemory) => return Err(NoMemory),
+        Err(FormatStop::Part(_)) => unreachable!(),
+    };
+    let ring = PolyRing::new(parts.field, parts.space);
+    let system = &certificate.system;
+    let names = system.space.as_slice();
+    let mut out = Vec::new(alloc);
+    out.extend_from_slice(b"yes\n")?;
+    write_lines(alloc, &ring, names, parts.fractions.as_slice(), &mut out)?;
+    out.extend_from_slice(b"invariant\n")?;
+    Ok(out)
+}

@@ -1,0 +1,5 @@
+pub mod Names
+pub mod Forms
+pub mod Format
+pub mod Verdicts
+pub mod Setting

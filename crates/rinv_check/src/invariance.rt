@@ -1,0 +1,186 @@
+//! The last condition: each fraction is invariant, as its cofactors show.
+
+ghost use Rattle.std.specs.Prelude.{◌≡◌, ◌+◌, ◌<◌, ◌≤◌, ◌^◌, ℕ, List, [], length, zip, not, All, IsTrue, true, false, IfOk, IfErr, OnOk, nat_lt};
+ghost use Rattle.std.specs.List.{position_from, list_all};
+ghost use Rattle.rinv_algebra.specs.Ring.{IsSame};
+ghost use Rattle.rinv_algebra.specs.Residue.{residue_ops};
+ghost use Rattle.rinv_algebra.specs.Polynomial.{poly_ops};
+ghost use Rattle.rinv_algebra.specs.Normal.{IsNormal};
+ghost use Rattle.rinv_ring.specs.Fault.{DegreesMeet};
+ghost use Rattle.rinv_defs.specs.Invariant.{change};
+ghost use Rattle.rinv_defs.specs.Conditions.{invariance_is_shown};
+ghost use Rattle.rinv_check.specs.Forms.{is_stored, are_stored, is_stored_fraction};
+ghost use Rattle.rinv_check.specs.Setting.{setting, change_fits, AreSame};
+
+use crate::format::StoredCertificate;
+use rinv_cert::Items;
+use rinv_poly::{KPoly, PolyRing};
+use rinv_ring::{Gf, NoMemory, Ring, RingFault};
+use rinv_sub::{combination, substitute, widened};
+use std::alloc::Global;
+
+// The rings of the space, and of the group and the space, over one field.
+#[derive(Drop)]
+struct Rings {
+    group: u32,
+    space: PolyRing<Gf>,
+    whole: PolyRing<Gf>,
+    ghost field: { space.coeffs ≡ whole.coeffs },
+    ghost vars: { whole.vars ≡ group + space.vars },
+}
+
+// N(g)*D - N*D(g), for the fraction N/D and the action g.
+fn change(
+    alloc: Global,
+    rings: &Rings,
+    action: &[KPoly],
+    numerator: &KPoly,
+    denominator: &KPoly,
+) -> Result<KPoly, RingFault>
+    requires many { length action.now ≡ rings.now.space.vars }
+    requires action { All (λ f. IsTrue (is_stored rings.now.whole.coeffs rings.now.whole.vars f)) action.now }
+    requires numerator { IsTrue (is_stored rings.now.whole.coeffs rings.now.space.vars numerator.now) }
+    requires denominator { IsTrue (is_stored rings.now.whole.coeffs rings.now.space.vars denominator.now) }
+    ensures element { IfOk result (λ r. IsTrue (is_stored rings.now.whole.coeffs rings.now.whole.vars r)) }
+    ensures value { IfOk result (λ r. IsSame (poly_ops (residue_ops rings.now.whole.coeffs)) r (change (setting rings.now.whole.coeffs rings.now.group action.now []) (numerator.now, denominator.now))) }
+    ensures fits { OnOk result (change_fits rings.now.whole.coeffs rings.now.group action.now numerator.now denominator.now ≡ true) }
+    ensures degree { IfErr result (DegreesMeet (λ _ _. change_fits rings.now.whole.coeffs rings.now.group action.now numerator.now denominator.now ≡ false)) }
+{
+    let Rings {
+        group,
+        space,
+        whole,
+    } = rings;
+    let moved_numerator = substitute(space, alloc, numerator, whole, action)?;
+    let kept_denominator = space.behind(alloc, *group, denominator, whole)?;
+    let left = whole.product(alloc, &moved_numerator, &kept_denominator)?;
+    let moved_denominator = substitute(space, alloc, denominator, whole, action)?;
+    let kept_numerator = space.behind(alloc, *group, numerator, whole)?;
+    let right = whole.product(alloc, &kept_numerator, &moved_denominator)?;
+    whole.sub(alloc, &left, &right)
+}
+
+// Whether the fraction's change is the sum of the cofactors times the ideal, and the products fit.
+fn is_shown(
+    alloc: Global,
+    rings: &Rings,
+    action: &[KPoly],
+    ideal: &[KPoly],
+    fraction: &(KPoly, KPoly),
+    cofactors: &[KPoly],
+) -> Result<bool, NoMemory>
+    requires many { length action.now ≡ rings.now.space.vars }
+    requires action { All (λ f. IsTrue (is_stored rings.now.whole.coeffs rings.now.whole.vars f)) action.now }
+    requires ideal { All (λ f. IsTrue (is_stored rings.now.whole.coeffs rings.now.whole.vars f)) ideal.now }
+    requires fraction { IsTrue (is_stored_fraction rings.now.whole.coeffs rings.now.space.vars fraction.now) }
+    requires cofactors { IsTrue (are_stored rings.now.whole.coeffs rings.now.whole.vars (length ideal.now) cofactors.now) }
+    ensures { IfOk result (λ b. b ≡ invariance_is_shown (setting rings.now.whole.coeffs rings.now.group action.now ideal.now) fraction.now cofactors.now) }
+{
+    let (numerator, denominator) = fraction;
+    let change = match change(alloc, rings, action, numerator, denominator) {
+        Ok(change) => change,
+        Err(RingFault::Degree { .. }) => return Ok(false),
+        Err(RingFault::NoMemory) => return Err(NoMemory),
+    };
+    let sum = match combination(&rings.whole, alloc, cofactors, ideal) {
+        Ok(sum) => sum,
+        Err(RingFault::Degree { .. }) => return Ok(false),
+        Err(RingFault::NoMemory) => return Err(NoMemory),
+    };
+    match rings.whole.same(alloc, &change, &sum) {
+        Ok(same) => Ok(same),
+        // Numbers modulo a prime refuse no comparison but for memory.
+        Err(_) => Err(NoMemory),
+    }
+}
+
+// The generators of the group's ideal, in the group's and the space's variables.
+fn widen_all(
+    alloc: Global,
+    from: &PolyRing<Gf>,
+    to: &PolyRing<Gf>,
+    ideal: &[KPoly],
+) -> Result<Vec<KPoly>, NoMemory>
+    requires field { from.now.coeffs ≡ to.now.coeffs }
+    requires more { from.now.vars ≤ to.now.vars }
+    requires ideal { All (λ f. IsTrue (is_stored from.now.coeffs from.now.vars f)) ideal.now }
+    ensures stored { IfOk result (λ v. All (λ f. IsTrue (is_stored to.now.coeffs to.now.vars f)) v.items) }
+    ensures same { IfOk result (λ v. AreSame to.now.coeffs v.items ideal.now) }
+{
+    let mut wide = Vec::new(alloc);
+    'ideal: for f in ideal {
+        // Sums of numbers modulo a prime are refused for memory alone.
+        let Ok(g) = widened(from, alloc, f, to) else {
+            return Err(NoMemory);
+        };
+        wide.push(g)?;
+    }
+    Ok(wide)
+}
+
+// The number, from 1, of the first fraction that is not shown.
+fn first_not_shown(
+    alloc: Global,
+    rings: &Rings,
+    action: &[KPoly],
+    ideal: &[KPoly],
+    fractions: &[(KPoly, KPoly)],
+    cofactors: &[Items<KPoly>],
+) -> Result<Option<u32>, NoMemory>
+    requires many { length action.now ≡ rings.now.space.vars }
+    requires action { All (λ f. IsTrue (is_stored rings.now.whole.coeffs rings.now.whole.vars f)) action.now }
+    requires ideal { All (λ f. IsTrue (is_stored rings.now.whole.coeffs rings.now.whole.vars f)) ideal.now }
+    requires as_many { length cofactors.now ≡ length fractions.now }
+    requires fractions { All (λ f. IsTrue (is_stored_fraction rings.now.whole.coeffs rings.now.space.vars f)) fractions.now }
+    requires cofactors { All (λ us. IsTrue (are_stored rings.now.whole.coeffs rings.now.whole.vars (length ideal.now) us)) cofactors.now }
+    ensures { IfOk result (λ o. o ≡ position_from (λ x. not (invariance_is_shown (setting rings.now.whole.coeffs rings.now.group action.now ideal.now) x.0 x.1)) 1 (zip fractions.now cofactors.now)) }
+{
+    'fractions: for k in 0..fractions.len() {
+        // Numbers of entries are u32: a longer list is answered as want of memory.
+        let Ok(number) = u32::try_from(k + 1) else {
+            return Err(NoMemory);
+        };
+        if !is_shown(
+            alloc,
+            rings,
+            action,
+            ideal,
+            &fractions[k],
+            cofactors[k].as_slice(),
+        )? {
+            return Ok(Some(number));
+        }
+    }
+    Ok(None)
+}
+
+/// The number, from 1, of the first fraction that the cofactors do not show to be invariant.
+pub(crate) fn first_failure(
+    alloc: Global,
+    stored: &StoredCertificate,
+) -> Result<Option<u32>, NoMemory>
+    requires few { stored.now.group + stored.now.space ≤ 16 }
+    requires ideal { IsTrue (list_all (is_stored stored.now.field stored.now.group) stored.now.ideal) }
+    requires action { IsTrue (are_stored stored.now.field (stored.now.group + stored.now.space) stored.now.space stored.now.action) }
+    requires fractions { IsTrue (list_all (is_stored_fraction stored.now.field stored.now.space) stored.now.fractions) }
+    requires as_many { length stored.now.cofactors ≡ length stored.now.fractions }
+    requires cofactors { IsTrue (list_all (are_stored stored.now.field (stored.now.group + stored.now.space) (length stored.now.ideal)) stored.now.cofactors) }
+    ensures { IfOk result (λ o. o ≡ position_from (λ x. not (invariance_is_shown (setting stored.now.field stored.now.group stored.now.action stored.now.ideal) x.0 x.1)) 1 (zip stored.now.fractions stored.now.cofactors)) }
+{
+    let whole = stored.group + stored.space;
+    let rings = Rings {
+        group: stored.group,
+        space: PolyRing::new(stored.field, stored.space),
+        whole: PolyRing::new(stored.field, whole),
+    };
+    let group_ring = PolyRing::new(stored.field, stored.group);
+    let ideal = widen_all(alloc, &group_ring, &rings.whole, stored.ideal.as_slice())?;
+    first_not_shown(
+        alloc,
+        &rings,
+        stored.action.as_slice(),
+        &ideal,
+        stored.fractions.as_slice(),
+        stored.cofactors.as_slice(),
+    )
+}

@@ -1,0 +1,164 @@
+//! Small tables over GF(7), and each call once over two rings.
+
+ghost use Rattle.std.specs.Prelude.{◌≡◌, IsTrue, IfOk, nat_lt};
+ghost use Rattle.rinv_algebra.specs.Normal.{IsNormal};
+ghost use Rattle.rinv_algebra.specs.Residue.{residue_ops};
+
+use super::{KPoly, PolyRing};
+use rinv_mono::Mono;
+use rinv_ring::{Gf, Ring, RingFault};
+use std::alloc::Global;
+use std::test::Fail;
+
+// The sum of the terms c*x^a*y^b over GF(7).
+fn polynomial(
+    alloc: Global,
+    ring: &PolyRing<Gf>,
+    list: &[(u32, u32, u32)],
+) -> Result<KPoly, RingFault>
+    requires field { ring.now.coeffs ≡ 7 }
+    requires count { ring.now.vars ≡ 2 }
+    ensures { IfOk result (λ f. IsNormal (residue_ops 7) (λ c. nat_lt c 7) 2 f) }
+{
+    let mut terms = Vec::new(alloc);
+    for (c, a, b) in list {
+        if let Some(mono) = Mono::from_exponents(alloc, &[*a, *b])? {
+            terms.push((mono, *c % 7))?;
+        }
+    }
+    ring.from_terms(alloc, terms)
+}
+
+// Whether these are the terms, in this order.
+fn is_list(ring: &PolyRing<Gf>, f: &KPoly, list: &[(u32, u32, u32)]) -> bool {
+    if ring.len(f) as usize != list.len() {
+        return false;
+    }
+    for k in 0..ring.len(f) {
+        let (c, a, b) = list[k as usize];
+        let mono = ring.mono(f, k);
+        if mono.vars() != 2
+            || mono.exponent(0) != a
+            || mono.exponent(1) != b
+            || *ring.coeff(f, k) != c
+        {
+            return false;
+        }
+    }
+    true
+}
+
+#[test]
+fn gives_the_tables_of_two_variables(rt: HostRuntime) -> Result<(), Fail> {
+    let alloc = rt.alloc();
+    let ring = PolyRing::new(Gf::new(7)?, 2);
+    let x_y = polynomial(alloc, &ring, &[(1, 0, 1), (1, 1, 0)])?;
+    let square = ring.product(alloc, &x_y, &x_y)?;
+    assert!(rt;
+        is_list(&ring, &square, &[(1, 2, 0), (2, 1, 1), (1, 0, 2)]),
+        "x^2 + 2*x*y + y^2"
+    );
+    let x_6 = polynomial(alloc, &ring, &[(1, 1, 0), (6, 0, 0)])?;
+    let other = polynomial(alloc, &ring, &[(6, 1, 0), (1, 0, 0)])?;
+    let sum = ring.add(alloc, &x_6, &other)?;
+    assert!(rt; is_list(&ring, &sum, &[]), "0");
+    let triple = ring.scale(alloc, &3, &x_y)?;
+    assert!(rt;
+        is_list(&ring, &triple, &[(3, 1, 0), (3, 0, 1)]),
+        "3*x + 3*y"
+    );
+    let difference = ring.sub(alloc, &x_6, &x_y)?;
+    assert!(rt;
+        is_list(&ring, &difference, &[(6, 0, 1), (6, 0, 0)]),
+        "6*y + 6"
+    );
+    Ok(())
+}
+
+#[test]
+fn reads_lists_as_they_stand(rt: HostRuntime) -> Result<(), Fail> {
+    let alloc = rt.alloc();
+    let ring = PolyRing::new(Gf::new(7)?, 2);
+    for (first, second, c, stored) in [
+        (1, 0, 6, true),
+        (0, 1, 6, false),
+        (1, 1, 6, false),
+        (1, 0, 7, false),
+        (1, 0, 0, false),
+    ] {
+        let mut terms = Vec::new(alloc);
+        for (a, coefficient) in [(first, 1), (second, c)] {
+            if let Some(mono) = Mono::from_exponents(alloc, &[a, 2])? {
+                terms.push((mono, coefficient))?;
+            }
+        }
+        assert_eq!(rt; ring.stored(terms)?.is_some(), stored);
+    }
+    Ok(())
+}
+
+#[test]
+fn refuses_a_product_over_the_limit(rt: HostRuntime) -> Result<(), Fail> {
+    let alloc = rt.alloc();
+    let ring = PolyRing::new(Gf::new(7)?, 2);
+    let high = polynomial(alloc, &ring, &[(1, 4000, 2000), (1, 0, 0)])?;
+    let low = polynomial(alloc, &ring, &[(1, 1, 1), (1, 4001, 0)])?;
+    assert_eq!(rt;
+        ring.product(alloc, &high, &low).err(),
+        Some(RingFault::Degree {
+            left: 6000,
+            right: 4001
+        })
+    );
+    Ok(())
+}
+
+#[test]
+fn moves_to_later_variables(rt: HostRuntime) -> Result<(), Fail> {
+    let alloc = rt.alloc();
+    let one = PolyRing::new(Gf::new(7)?, 1);
+    let two = PolyRing::new(Gf::new(7)?, 2);
+    let mut terms = Vec::new(alloc);
+    if let Some(mono) = Mono::from_exponents(alloc, &[3])? {
+        terms.push((mono, 5))?;
+    }
+    let cube = one.from_terms(alloc, terms)?;
+    let moved = one.behind(alloc, 1, &cube, &two)?;
+    assert!(rt; is_list(&two, &moved, &[(5, 0, 3)]), "5*y^3");
+    Ok(())
+}
+
+// Each call of the ring once: whether a + b - b, times 1, is a, and times 0 is zero.
+fn laws_hold<R: Ring>(ring: &R, alloc: Global, a: &R::Elem, b: &R::Elem) -> Result<bool, RingFault>
+    requires left { IsTrue (R.is_element ring.now a.now) }
+    requires right { IsTrue (R.is_element ring.now b.now) }
+{
+    let zero = ring.zero(alloc)?;
+    let one = ring.one(alloc)?;
+    let copy = ring.copy(alloc, a)?;
+    let sum = ring.add(alloc, &copy, b)?;
+    let back = ring.sub(alloc, &sum, b)?;
+    let product = ring.mul(alloc, &back, &one)?;
+    let nothing = ring.mul(alloc, &product, &zero)?;
+    let same = ring.same(alloc, &product, a)?;
+    let other = ring.same(alloc, &sum, a)?;
+    Ok(same && !other && ring.is_zero(&nothing) && !ring.is_zero(&one))
+}
+
+#[test]
+fn laws_hold_over_two_rings(rt: HostRuntime) -> Result<(), Fail> {
+    let alloc = rt.alloc();
+    let inner = PolyRing::new(Gf::new(7)?, 2);
+    let f = polynomial(alloc, &inner, &[(1, 1, 0), (3, 0, 1)])?;
+    let g = polynomial(alloc, &inner, &[(6, 1, 0), (1, 0, 0)])?;
+    assert!(rt; laws_hold(&inner, alloc, &f, &g)?, "over the field");
+    let outer = PolyRing::new(inner, 1);
+    let mut terms = Vec::new(alloc);
+    if let Some(mono) = Mono::from_exponents(alloc, &[1])? {
+        terms.push((mono, f))?;
+    }
+    let p = outer.from_terms(alloc, terms)?;
+    let square = outer.mul(alloc, &p, &p)?;
+    assert!(rt; laws_hold(&outer, alloc, &square, &p)?, "over polynomials");
+    Ok(())
+}

@@ -1,0 +1,4 @@
+pub mod Refused
+pub mod Factors
+pub mod Sums
+pub mod Padded

@@ -1,0 +1,14 @@
+//! Substitution: polynomials put for the variables of a polynomial.
+#![tactic(auto)]
+
+mod combinations;
+mod powers;
+mod substitution;
+mod widened_polynomials;
+
+pub use combinations::combination;
+pub use substitution::substitute;
+pub use widened_polynomials::widened;
+
+#[cfg(test)]
+mod tests;
