@@ -5,3 +5,4 @@ pub mod Criterion
 pub mod Settled
 pub mod Division
 pub mod Irreducible
+pub mod AlmostFull
