@@ -1,0 +1,6 @@
+pub mod Divisors
+pub mod Bases
+pub mod Minimal
+pub mod Rests
+pub mod Ascending
+pub mod Free
