@@ -4,3 +4,4 @@ pub mod Minimal
 pub mod Rests
 pub mod Ascending
 pub mod Free
+pub mod Descent
