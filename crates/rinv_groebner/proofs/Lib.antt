@@ -1,3 +1,10 @@
+pub mod Multiples
+pub mod Elements
+pub mod Pairs
+pub mod Criterion
+pub mod Settled
+pub mod Division
+pub mod Irreducible
 pub mod Divisors
 pub mod Bases
 pub mod Minimal

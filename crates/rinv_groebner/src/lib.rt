@@ -1,4 +1,4 @@
-//! Gröbner bases: the theory of normal forms, reduced bases and elimination. The functions do nothing: each contract is a law.
+//! The theory of Gröbner bases: `proofs/` has Buchberger's criterion and division over any ring of polynomials.
 #![tactic(auto)]
 
 pub mod reduced;
