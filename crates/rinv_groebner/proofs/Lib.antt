@@ -12,3 +12,4 @@ pub mod Rests
 pub mod Ascending
 pub mod Free
 pub mod Descent
+pub mod FirstVariables
