@@ -6,3 +6,12 @@ pub mod Settled
 pub mod Division
 pub mod Irreducible
 pub mod AlmostFull
+pub mod MonomialLists
+pub mod Divisors
+pub mod Bases
+pub mod Minimal
+pub mod Rests
+pub mod Ascending
+pub mod Free
+pub mod Descent
+pub mod FirstVariables
