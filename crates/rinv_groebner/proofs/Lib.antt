@@ -13,3 +13,5 @@ pub mod Ascending
 pub mod Free
 pub mod Descent
 pub mod FirstVariables
+pub mod Greatest
+pub mod LeadingMonomials
