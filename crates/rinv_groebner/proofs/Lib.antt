@@ -15,3 +15,4 @@ pub mod Descent
 pub mod FirstVariables
 pub mod Greatest
 pub mod LeadingMonomials
+pub mod AlmostFull
