@@ -15,3 +15,6 @@ pub mod Ascending
 pub mod Free
 pub mod Descent
 pub mod FirstVariables
+pub mod Greatest
+pub mod LeadingMonomials
+pub mod Compared
