@@ -18,3 +18,4 @@ pub mod FirstVariables
 pub mod Greatest
 pub mod LeadingMonomials
 pub mod Compared
+pub mod ListElements
