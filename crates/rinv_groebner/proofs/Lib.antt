@@ -19,3 +19,5 @@ pub mod Greatest
 pub mod LeadingMonomials
 pub mod Compared
 pub mod ListElements
+pub mod Reducible
+pub mod StepClasses
