@@ -21,3 +21,6 @@ pub mod Compared
 pub mod ListElements
 pub mod Reducible
 pub mod StepClasses
+pub mod Paths
+pub mod NextSteps
+pub mod UniqueSteps
