@@ -24,3 +24,6 @@ pub mod StepClasses
 pub mod Paths
 pub mod NextSteps
 pub mod UniqueSteps
+pub mod StepSums
+pub mod StepMultiples
+pub mod GoodPairs
