@@ -27,3 +27,4 @@ pub mod UniqueSteps
 pub mod StepSums
 pub mod StepMultiples
 pub mod GoodPairs
+pub mod PairsOfLists
