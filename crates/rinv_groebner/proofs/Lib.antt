@@ -28,3 +28,5 @@ pub mod StepSums
 pub mod StepMultiples
 pub mod GoodPairs
 pub mod PairsOfLists
+pub mod MembersOfLists
+pub mod ListBases
