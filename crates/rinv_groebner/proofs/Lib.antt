@@ -30,3 +30,4 @@ pub mod GoodPairs
 pub mod PairsOfLists
 pub mod MembersOfLists
 pub mod ListBases
+pub mod SettledLists
