@@ -31,3 +31,4 @@ pub mod PairsOfLists
 pub mod MembersOfLists
 pub mod ListBases
 pub mod SettledLists
+pub mod DivisionLaws

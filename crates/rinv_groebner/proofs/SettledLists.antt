@@ -2,6 +2,7 @@
 --   pair_cases           a pair in a list of pairs is the first, in either order, or behind it
 --   nonzero_at           the places of a list without zero
 --   settled-good-list    settled pairs are good
+--   settled_basis        a list whose pairs are settled is a Gröbner basis
 --   all-good             where all pairs of places are good in ascending order, all are
 use Rattle.std.proofs.Common.{◌≡◌, ◌⊎◌, ℕ, zero, suc, ◌<◌, Bool, true, false, not, List, [], ◌∷◌, length, get_or, refl, sym, ◌∙◌, ap, ap₂, subst, subst₂, ◌+◌, inl, inr, arith, IsTrue, true≢false}
 use Rattle.std.specs.Prelude.{IsFalse, ◌||◌, min, max, zip}
@@ -29,7 +30,7 @@ use Rattle.rinv_theory.proofs.Places.{front-mul}
 use Rattle.rinv_theory.proofs.Variables.{IsFront, in_variables-of}
 use Rattle.rinv_theory.proofs.Leads.{IsUpTo, lead-of, upto-from, upto-below, mul-upto}
 use Rattle.rinv_groebner.specs.Orders.{OrdersMonomials}
-use Rattle.rinv_groebner.specs.Basis.{AreNonzero}
+use Rattle.rinv_groebner.specs.Basis.{AreNonzero, IsGroebnerBasis}
 use Rattle.rinv_groebner.specs.Settled.{is_listed, lead_at, lcm_at, stays_below, HasQuotients, HasChain, AreCoprime, AreSettled, AreAllListed}
 use Rattle.rinv_groebner.proofs.Multiples.{Multiples, multiples-add, multiples-element}
 use Rattle.rinv_groebner.proofs.Elements.{IsBelow}
@@ -38,6 +39,7 @@ use Rattle.rinv_groebner.proofs.Compared.{all_monomials, InFirst, nonzero-front,
 use Rattle.rinv_groebner.proofs.ListElements.{AllFirst, Place, list_elements}
 use Rattle.rinv_groebner.proofs.Reducible.{place-inside}
 use Rattle.rinv_groebner.proofs.GoodPairs.{place_equal}
+use Rattle.rinv_groebner.proofs.ListBases.{good-list_basis}
 use Rattle.rinv_groebner.proofs.PairsOfLists.{quotients-good, coprime-good, chain-good, lcm_front}
 
 -- a pair in a list of pairs is the first, in either order, or behind it
@@ -151,3 +153,7 @@ module _ {E : Type 0} (o : RingOps E) (l : RingLaws o) (field : FieldLaws o) (cm
     | inr (inl below) ↦ h x y below
     | inr (inr above) ↦ good_sym (list_elements o l field cmp v order hs first) y x (h y x above)
   ]
+
+  -- a list without zero whose pairs are settled is a Gröbner basis of its ideal
+  pub settled_basis : AreNonzero o hs → {pairs : List (ℕ × ℕ)} → AreSettled o cmp v hs pairs → AreAllListed hs pairs → IsGroebnerBasis o cmp v hs hs
+  settled_basis nonzero s all = good-list_basis o l field cmp v order hs first (all-good (λ x y low. settled-good-list nonzero s x y (all x.0 y.0 low (place-inside o cmp hs y))))
