@@ -32,3 +32,5 @@ pub mod MembersOfLists
 pub mod ListBases
 pub mod SettledLists
 pub mod DivisionLaws
+pub mod Falls
+pub mod Ascents
