@@ -34,3 +34,5 @@ pub mod SettledLists
 pub mod DivisionLaws
 pub mod Falls
 pub mod Ascents
+pub mod JournalGood
+pub mod JournalPairs
