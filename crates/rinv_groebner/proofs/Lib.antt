@@ -36,3 +36,5 @@ pub mod Falls
 pub mod Ascents
 pub mod JournalGood
 pub mod JournalPairs
+pub mod JournalFacts
+pub mod JournalBasis
