@@ -38,3 +38,4 @@ pub mod JournalGood
 pub mod JournalPairs
 pub mod JournalFacts
 pub mod JournalBasis
+pub mod JournalUnique
