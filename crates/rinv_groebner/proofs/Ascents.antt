@@ -2,9 +2,8 @@
 --   divides_first v      divisibility in the first v variables is almost full
 --   ascents_end          only finitely many monomials in v variables can be added, each divided by none before it
 --   descents_end         in an order of the monomials in v variables they descend only finitely often
-use Rattle.std.proofs.Common.{◌≡◌, ℕ, zero, suc, ◌<◌, ◌≤◌, Bool, true, false, not, ◌&&◌, List, [], ◌∷◌, length, get_or, drop, refl, sym, ◌∙◌, ap, arith, subst, inl, inr, ◌⊎◌, IsTrue, true≢false}
+use Rattle.std.proofs.Common.{◌≡◌, ℕ, zero, suc, ◌≤◌, Bool, true, false, ◌&&◌, List, [], ◌∷◌, length, get_or, drop, refl, sym, ◌∙◌, arith, subst, inl, inr, IsTrue, true≢false}
 use Rattle.std.specs.Prelude.{nat_le, ◌||◌}
-use Rattle.std.specs.List.{list_any}
 use Rattle.std.specs.declared.cmp.Ordering.{Ordering}
 use Rattle.std.specs.declared.cmp.Ordering.TheVariants.{Less}
 use Rattle.std.proofs.lemmas.Bool.{cases_Bool}
@@ -13,11 +12,11 @@ use mathlib.Core.WellFounded.{Acc, WellFounded}
 use mathlib.Core.WellFounded.Subrelation as Subrelation
 use mathlib.Core.WellFounded.InvImage as InvImage
 use Rattle.rinv_algebra.specs.Monomial.{divides}
-use Rattle.rinv_theory.proofs.Monoid.{Monomial, monomial}
+use Rattle.rinv_theory.proofs.Monoid.{monomial}
 use Rattle.rinv_groebner.specs.Orders.{OrdersMonomials}
 use Rattle.rinv_groebner.specs.Count.{is_undivided, AddsUndivided}
-use Rattle.rinv_groebner.proofs.AlmostFull.{AlmostFull, full-weaken, full-pullback, full-and, full-le}
-use Rattle.rinv_groebner.proofs.FirstVariables.{order_in, order_in-less, order_in-well}
+use Rattle.rinv_groebner.proofs.AlmostFull.{AlmostFull, full-pullback, full-and, full-le}
+use Rattle.rinv_groebner.proofs.FirstVariables.{order_in-less, order_in-well}
 
 -- no exponent of the first v is greater
 abbrev divides_first : ℕ → List ℕ → List ℕ → Bool

@@ -2,7 +2,7 @@
 --   division-identity    the polynomial is the sum of the quotients times the elements, and of what is left
 --   step-descends        what can be reduced after a step is less than what was cancelled
 --   division-bounded, left-bounded    no product, and nothing left, has a monomial above the greatest of the polynomial
-use Rattle.std.proofs.Common.{◌≡◌, ◌⊎◌, ℕ, Bool, true, false, not, List, [], ◌∷◌, ◌++◌, length, get_or, map, refl, sym, ◌∙◌, ap, subst, inl, inr, IsTrue, true≢false}
+use Rattle.std.proofs.Common.{◌≡◌, ℕ, Bool, true, false, not, List, [], ◌∷◌, ◌++◌, length, get_or, map, refl, sym, ◌∙◌, ap, subst, inl, inr, IsTrue}
 use Rattle.std.specs.Prelude.{filter, unwrap_or, if◌then◌else◌}
 use Rattle.std.specs.List.{reduce}
 use Rattle.std.specs.Ordering.{is_lt, is_ge}
@@ -16,7 +16,7 @@ use Rattle.rinv_algebra.proofs.PolynomialLaws.{poly_laws}
 use Rattle.rinv_algebra.proofs.Same.{same-coefficients}
 use Rattle.std.proofs.Math.Seq.{take-nil}
 use Rattle.rinv_theory.proofs.Places.{front-list}
-use Rattle.rinv_theory.proofs.Classes.{Class, class, class_sound, class_exact, class-add, class-zero}
+use Rattle.rinv_theory.proofs.Classes.{class, class_sound, class_exact, class-add, class-zero}
 use Rattle.rinv_theory.proofs.Monoid.{Monomial, monomial}
 use Rattle.rinv_theory.proofs.Polynomials.{polynomials}
 use Rattle.rinv_theory.proofs.Of.{Of, of-weaken}
@@ -28,7 +28,7 @@ use Rattle.rinv_groebner.proofs.Greatest.{not_less}
 use Rattle.rinv_groebner.proofs.Compared.{all_monomials, InFirst, of_passes, has-coefficient, has_front, nonzero-front, class_leads, less_below, below_less}
 use Rattle.rinv_groebner.proofs.ListElements.{AllFirst}
 use Rattle.rinv_groebner.proofs.StepClasses.{cancelled_front, step-first, step-falls}
-use Rattle.rinv_groebner.proofs.Paths.{Path, steps_path}
+use Rattle.rinv_groebner.proofs.Paths.{steps_path}
 use Rattle.rinv_groebner.proofs.StepSums.{path-sum}
 use Rattle.rinv_groebner.proofs.StepMultiples.{Passes, path-of, path-products}
 
