@@ -16,3 +16,4 @@ pub mod FirstVariables
 pub mod Greatest
 pub mod LeadingMonomials
 pub mod AlmostFull
+pub mod MemberLists
