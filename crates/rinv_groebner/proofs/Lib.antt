@@ -5,6 +5,8 @@ pub mod Criterion
 pub mod Settled
 pub mod Division
 pub mod Irreducible
+pub mod AlmostFull
+pub mod MonomialLists
 pub mod Divisors
 pub mod Bases
 pub mod Minimal
@@ -15,5 +17,5 @@ pub mod Descent
 pub mod FirstVariables
 pub mod Greatest
 pub mod LeadingMonomials
-pub mod AlmostFull
 pub mod MemberLists
+pub mod Compared
