@@ -18,4 +18,3 @@ pub mod FirstVariables
 pub mod Greatest
 pub mod LeadingMonomials
 pub mod MemberLists
-pub mod Compared
