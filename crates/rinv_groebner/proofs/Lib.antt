@@ -18,3 +18,5 @@ pub mod FirstVariables
 pub mod Greatest
 pub mod LeadingMonomials
 pub mod MemberLists
+pub mod Compared
+pub mod ListElements
