@@ -20,3 +20,5 @@ pub mod LeadingMonomials
 pub mod MemberLists
 pub mod Compared
 pub mod ListElements
+pub mod Reducible
+pub mod ListBases
