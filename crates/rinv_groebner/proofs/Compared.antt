@@ -13,6 +13,7 @@ use Rattle.rinv_algebra.specs.Ring.{RingOps, RingLaws, IsSame}
 use Rattle.rinv_algebra.specs.Monomial.{same_monomial}
 use Rattle.rinv_algebra.specs.Polynomial.{Polynomial, poly_ops, coefficient, has_monomial, is_zero}
 use Rattle.rinv_algebra.specs.Leading.{IsLeadingMonomial, leading_monomial}
+use Rattle.rinv_algebra.proofs.PolynomialLaws.{poly_laws}
 use Rattle.rinv_theory.proofs.CRing.{CRing}
 use Rattle.rinv_theory.proofs.Classes.{Class, class, class_ring, class_sound, class_exact, class-zero}
 use Rattle.rinv_theory.proofs.Monoid.{Monoid, IsOne, Monomial, monomial, monomials, monomial_ind, monomial_exact}
@@ -83,6 +84,10 @@ module _ {E : Type 0} (o : RingOps E) (l : RingLaws o) where
     -- the polynomial is a sum of terms in the first v variables
     abbrev pub InFirst : Polynomial E → Type 0
     InFirst f = Of (polynomials o l) (IsFront v) (class (poly_ops o) f)
+
+    -- which depends on its coefficients alone
+    pub first-same : (f g : Polynomial E) → IsSame (poly_ops o) f g → InFirst f → InFirst g
+    first-same f g s r = subst (Of (polynomials o l) (IsFront v)) (class_sound (poly_ops o) (poly_laws o l) f g s) r
 
     in_front : (m : Monomial) → monomials.same (front v m) m ≡ true → IsFront v m
     in_front m t = monomials.same_eq (front v m) m t

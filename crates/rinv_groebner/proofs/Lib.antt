@@ -22,3 +22,4 @@ pub mod Compared
 pub mod ListElements
 pub mod Reducible
 pub mod ListBases
+pub mod StepClasses

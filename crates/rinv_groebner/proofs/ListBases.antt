@@ -73,7 +73,7 @@ module _ {E : Type 0} (o : RingOps E) (l : RingLaws o) (v : ℕ) where
   pub represented : (fs : List (Polynomial E)) (x : Class (poly_ops o)) → InIdeal fs x → ∥ ((f : Polynomial E) × IsTrue (is_in_variables v f) × IsMember o fs f × (class (poly_ops o) f ≡ x)) ∥₁
   represented fs x m = ∥∥₁_elim m ∥∥₁_prop (λ p. ∥∥₁_elim (of-in_variables o l v p.1) ∥∥₁_prop (λ q. ∥∥₁_map (in-member o l fs p.0 q.0 q.2) (λ r. (q.0, q.1, r, q.2))))
 
-  module _ (field : FieldLaws o) (cmp : List ℕ → List ℕ → Ordering) (order : OrdersMonomials cmp v) (fs hs : List (Polynomial E)) (first : AllFirst o l field cmp v order hs) (members : AreMembers o fs hs) where
+  module _ (field : FieldLaws o) (cmp : List ℕ → List ℕ → Ordering) (order : OrdersMonomials cmp v) (fs hs : List (Polynomial E)) (first : AllFirst o l v hs) (members : AreMembers o fs hs) where
     -- the leading monomial of the element at a place
     abbrev pub place_lead : Place o hs → Monomial
     place_lead k = monomial (leading_monomial o cmp (get_or hs k.0 []))

@@ -51,7 +51,7 @@ module _ {K M P : Type 0} {𝓚 : CRing K} {𝓜 : Monoid M} (𝓣 : TermRing �
 abbrev pub Place : {E : Type 0} → RingOps E → List (Polynomial E) → Type 0
 Place o hs = (k : ℕ) × IsFalse (is_zero o (get_or hs k []))
 
-module _ {E : Type 0} (o : RingOps E) (l : RingLaws o) (field : FieldLaws o) (cmp : List ℕ → List ℕ → Ordering) (v : ℕ) (order : OrdersMonomials cmp v) where
+module _ {E : Type 0} (o : RingOps E) (l : RingLaws o) (v : ℕ) where
   -- each element is a sum of terms in the first v variables
   abbrev pub AllFirst : List (Polynomial E) → Type 0
   AllFirst hs = (k : ℕ) → InFirst o l v (get_or hs k [])
@@ -65,11 +65,12 @@ module _ {E : Type 0} (o : RingOps E) (l : RingLaws o) (field : FieldLaws o) (cm
   all_first (f ∷ hs) h zero = in_variables-of o l v f (both (is_in_variables v f) _ h).0
   all_first (f ∷ hs) h (suc k) = all_first hs (both (is_in_variables v f) _ h).1 k
 
+module _ {E : Type 0} (o : RingOps E) (l : RingLaws o) (field : FieldLaws o) (cmp : List ℕ → List ℕ → Ordering) (v : ℕ) (order : OrdersMonomials cmp v) where
   -- the inverse of the leading coefficient
   pub lead-inverse : (f : Polynomial E) → IsFalse (is_zero o f) → (y : E) × IsSame o (o.mul (leading_coefficient o cmp f) y) o.one
   lead-inverse f n = field.invertible (leading_coefficient o cmp f) (λ s. true≢false (sym (leading_monomial-leads o l cmp order.laws f n).has ∙ ap not s))
 
-  module _ (hs : List (Polynomial E)) (first : AllFirst hs) where
+  module _ (hs : List (Polynomial E)) (first : AllFirst o l v hs) where
     -- the element's leading monomial leads it
     pub list-leads : (k : Place o hs) → Leads (polynomials o l) (all_monomials cmp v order) (class (poly_ops o) (get_or hs k.0 [])) (monomial (leading_monomial o cmp (get_or hs k.0 [])))
     list-leads k = class_leads o l v cmp order (get_or hs k.0 []) (first k.0) k.1
