@@ -23,3 +23,4 @@ pub mod ListElements
 pub mod Reducible
 pub mod ListBases
 pub mod StepClasses
+pub mod Generates

@@ -3,12 +3,12 @@
 --   in_ideal, in_ideal-subtract, in_ideal-constant    members; differences; products with a constant
 --   represented          a formal sum in v variables that is a member stands for it
 --   list_basis           the elements of a Gröbner basis that are not zero are a basis of this ideal
-use Rattle.std.proofs.Common.{◌≡◌, ◌⊎◌, ℕ, zero, suc, ◌<◌, Bool, true, false, not, List, [], ◌∷◌, length, get_or, refl, sym, ◌∙◌, ap, subst, arith, IsTrue, true≢false}
+use Rattle.std.proofs.Common.{◌≡◌, ℕ, zero, suc, ◌<◌, Bool, true, false, List, [], ◌∷◌, length, get_or, refl, sym, ◌∙◌, ap, subst, arith, IsTrue}
 use Rattle.std.specs.Prelude.{IsFalse}
-use Rattle.std.specs.List.{list_all, AllByRecursion}
+use Rattle.std.specs.List.{AllByRecursion}
 use Rattle.std.specs.declared.cmp.Ordering.{Ordering}
 use mathlib.Core.Logic.{∥∥₁_elim, ∥∥₁_prop, ∥∥₁_map}
-use Rattle.rinv_algebra.specs.Ring.{RingOps, RingLaws, FieldLaws, IsSame}
+use Rattle.rinv_algebra.specs.Ring.{RingOps, RingLaws, FieldLaws}
 use Rattle.rinv_algebra.specs.Polynomial.{Polynomial, poly_ops, is_zero}
 use Rattle.rinv_algebra.specs.Normal.{is_in_variables}
 use Rattle.rinv_algebra.specs.Ideal.{IsMember}
@@ -17,8 +17,8 @@ use Rattle.rinv_algebra.proofs.PolynomialLaws.{poly_laws}
 use Rattle.rinv_theory.proofs.CRing.{CRing}
 use Rattle.rinv_theory.proofs.Solver.{ring, reading}
 use Rattle.rinv_theory.proofs.Classes.{Class, class, class_ring, class_sound, class-zero}
-use Rattle.rinv_theory.proofs.Monoid.{Monomial, monomial, monomials, monomial_ind}
-use Rattle.rinv_theory.proofs.TermRing.{TermRing, coefficient-zero, term-neg}
+use Rattle.rinv_theory.proofs.Monoid.{Monomial, monomial, monomials}
+use Rattle.rinv_theory.proofs.TermRing.{coefficient-zero, term-neg}
 use Rattle.rinv_theory.proofs.Polynomials.{polynomials, poly_ring}
 use Rattle.rinv_theory.proofs.Of.{Of, of-add, of-times}
 use Rattle.rinv_theory.proofs.Ideals.{In, in-add, in-mul, in-neg}
@@ -27,7 +27,7 @@ use Rattle.rinv_theory.proofs.Variables.{IsFront, in_variables-of, of-in_variabl
 use Rattle.rinv_theory.proofs.Leads.{Leads, lead-unique}
 use Rattle.rinv_groebner.specs.Orders.{OrdersMonomials}
 use Rattle.rinv_groebner.specs.Division.{is_reducible}
-use Rattle.rinv_groebner.specs.Basis.{IsGroebnerBasis, AreMembers}
+use Rattle.rinv_groebner.specs.Basis.{AreMembers}
 use Rattle.rinv_groebner.proofs.Bases.{IsBasis}
 use Rattle.rinv_groebner.proofs.Compared.{all_monomials, InFirst, class_leads}
 use Rattle.rinv_groebner.proofs.ListElements.{Place, AllFirst, list-leads}
