@@ -24,3 +24,4 @@ pub mod Reducible
 pub mod ListBases
 pub mod StepClasses
 pub mod Generates
+pub mod NormalForms

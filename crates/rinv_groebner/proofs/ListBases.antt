@@ -9,7 +9,7 @@ use Rattle.std.specs.List.{AllByRecursion}
 use Rattle.std.specs.declared.cmp.Ordering.{Ordering}
 use mathlib.Core.Logic.{∥∥₁_elim, ∥∥₁_prop, ∥∥₁_map}
 use Rattle.rinv_algebra.specs.Ring.{RingOps, RingLaws, FieldLaws}
-use Rattle.rinv_algebra.specs.Polynomial.{Polynomial, poly_ops, is_zero}
+use Rattle.rinv_algebra.specs.Polynomial.{Polynomial, poly_ops, is_zero, difference}
 use Rattle.rinv_algebra.specs.Normal.{is_in_variables}
 use Rattle.rinv_algebra.specs.Ideal.{IsMember}
 use Rattle.rinv_algebra.specs.Leading.{leading_monomial}
@@ -31,6 +31,7 @@ use Rattle.rinv_groebner.specs.Basis.{AreMembers}
 use Rattle.rinv_groebner.proofs.Bases.{IsBasis}
 use Rattle.rinv_groebner.proofs.Compared.{all_monomials, InFirst, class_leads}
 use Rattle.rinv_groebner.proofs.ListElements.{Place, AllFirst, list-leads}
+use Rattle.rinv_groebner.proofs.StepClasses.{class-difference}
 use Rattle.rinv_groebner.proofs.Reducible.{place-inside, reducible_place}
 
 -- a fact of each element of a list, at a place
@@ -60,6 +61,10 @@ module _ {E : Type 0} (o : RingOps E) (l : RingLaws o) (v : ℕ) where
     where
       minus_one : {R : Type 0} (𝓡 : CRing R) (x : R) → 𝓡.mul (𝓡.neg 𝓡.one) x ≡ 𝓡.neg x
       minus_one 𝓡 x = ring 𝓡 (x ∷ []) (search reading depth 30) refl
+
+  -- a difference of sums of terms in the first v variables
+  pub first-difference : (f g : Polynomial E) → InFirst o l v f → InFirst o l v g → InFirst o l v (difference o f g)
+  first-difference f g r s = subst (Of (polynomials o l) (IsFront v)) (sym (class-difference o l f g)) (of-add (polynomials o l) r (of-neg s))
 
   -- differences
   pub in_ideal-subtract : (fs : List (Polynomial E)) (x y : Class (poly_ops o)) → InIdeal fs x → InIdeal fs y → InIdeal fs ((poly_ring o l).add x ((poly_ring o l).neg y))
