@@ -25,3 +25,6 @@ pub mod ListBases
 pub mod StepClasses
 pub mod Generates
 pub mod NormalForms
+pub mod Paths
+pub mod NextSteps
+pub mod UniqueSteps

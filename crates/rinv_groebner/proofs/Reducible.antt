@@ -2,30 +2,31 @@
 --   divides-parts, parts_divide    a leading monomial divides: the element is not zero, and the lists divide
 --   first_divisor        the first element whose leading monomial divides, where one does
 --   place_reducible, reducible_place    at places of the list
+--   divides-one, reducible-one    however the monomial is written
 --   lead_divides-same    it depends on the coefficients and the monomial alone
-use Rattle.std.proofs.Common.{◌≡◌, ◌⊎◌, ℕ, zero, suc, ◌<◌, Bool, not, List, [], ◌∷◌, length, get_or, refl, sym, ◌∙◌, ap, subst, subst₂, inl, inr, arith, IsTrue, true≢false}
+use Rattle.std.proofs.Common.{◌≡◌, ◌⊎◌, ℕ, zero, suc, ◌<◌, Bool, true, false, not, ◌&&◌, List, [], ◌∷◌, length, get_or, refl, sym, ◌∙◌, ap, ap₂, ◌||◌, subst, subst₂, inl, inr, arith, IsTrue, true≢false}
 use Rattle.std.specs.Prelude.{IsFalse}
-use Rattle.std.specs.List.{list_any}
+use Rattle.std.specs.List.{list_any, AllZip}
 use Rattle.std.specs.Cmp.{both_ways}
 use Rattle.std.proofs.lemmas.Bool.{cases_Bool}
 use Rattle.std.proofs.lemmas.Bool.Decides.{nat_tests}
 use Rattle.std.proofs.lemmas.List.Folds.{list_any_at}
 use Rattle.std.specs.declared.cmp.Ordering.{Ordering}
-use Rattle.rinv_algebra.specs.Ring.{RingOps, RingLaws, IsSame}
+use Rattle.rinv_algebra.specs.Ring.{RingOps, RingLaws, FieldLaws, IsSame}
 use Rattle.rinv_algebra.specs.Monomial.{divides}
 use Rattle.rinv_algebra.specs.Polynomial.{Polynomial, poly_ops, same, is_zero}
 use Rattle.rinv_algebra.specs.Leading.{leading_monomial}
 use Rattle.rinv_algebra.proofs.PolynomialLaws.{poly_laws}
-use Rattle.rinv_algebra.proofs.MonomialLaws.{same_monomial_sym}
+use Rattle.rinv_algebra.proofs.MonomialLaws.{same_monomial_sym, same_at}
 use Rattle.rinv_algebra.proofs.Degrees.{same-left}
-use Rattle.rinv_algebra.proofs.Same.{and_true}
+use Rattle.rinv_algebra.proofs.Same.{both, and_true}
 use Rattle.rinv_theory.proofs.Classes.{class, class_sound}
-use Rattle.rinv_theory.proofs.Monoid.{IsOne, monomial, monomial_sound}
+use Rattle.rinv_theory.proofs.Monoid.{IsOne, Monomial, monomial, monomials, monomial_sound}
 use Rattle.rinv_theory.proofs.Polynomials.{polynomials}
 use Rattle.rinv_theory.proofs.Leads.{Leads, lead-unique}
 use Rattle.rinv_groebner.specs.Orders.{OrdersMonomials}
 use Rattle.rinv_groebner.specs.Division.{lead_divides, is_reducible}
-use Rattle.rinv_groebner.proofs.MonomialLists.{Divisor, divides-divisor, divisor-divides}
+use Rattle.rinv_groebner.proofs.MonomialLists.{divides_at, divides_from, Divisor, divides-divisor, divisor-divides}
 use Rattle.rinv_groebner.proofs.Compared.{all_monomials, InFirst, first-same, class_leads}
 use Rattle.rinv_groebner.proofs.ListElements.{Place}
 
@@ -50,6 +51,13 @@ past_end [] (suc k) d = inr refl
 past_end (x ∷ xs) zero d = inl (omega arith)
 past_end (x ∷ xs) (suc k) d = elim (past_end xs k d) [ inl h ↦ inl (omega (arith, h)) | inr e ↦ inr e ]
 
+-- a divisor of a monomial divides it however it is written
+pub divides-one : (c a b : List ℕ) → IsOne a b → divides c a ≡ divides c b
+divides-one c a b e = both_ways _ _ (moved a b e) (moved b a (same_monomial_sym a b e))
+  where
+    moved : (a b : List ℕ) → IsOne a b → IsTrue (divides c a) → IsTrue (divides c b)
+    moved a b e d = divides_from c b (λ k. let x = divides_at c a d k in let y = same_at a b e k in omega (arith, x, y))
+
 module _ {E : Type 0} (o : RingOps E) (cmp : List ℕ → List ℕ → Ordering) where
   -- the element is not zero, and its leading monomial divides
   pub divides-parts : (h : Polynomial E) (m : List ℕ) → IsTrue (lead_divides o cmp h m) → IsFalse (is_zero o h) × IsTrue (divides (leading_monomial o cmp h) m)
@@ -63,6 +71,11 @@ module _ {E : Type 0} (o : RingOps E) (cmp : List ℕ → List ℕ → Ordering)
   pub place-inside : (hs : List (Polynomial E)) (k : Place o hs) → k.0 < length hs
   unfolding same
   place-inside hs (k, n) = elim (past_end hs k []) [ inl h ↦ h | inr e ↦ absurd (true≢false (sym (ap (is_zero o) e) ∙ n)) ]
+
+  -- whether a monomial is reducible does not depend on how it is written
+  pub reducible-one : (hs : List (Polynomial E)) (a b : List ℕ) → IsOne a b → is_reducible o cmp hs a ≡ is_reducible o cmp hs b
+  reducible-one [] a b e = refl
+  reducible-one (h ∷ hs) a b e = ap₂ ◌||◌ (ap (λ (t : Bool). not (is_zero o h) && t) (divides-one (leading_monomial o cmp h) a b e)) (reducible-one hs a b e)
 
   -- the first element whose leading monomial divides
   pub first_divisor : (hs : List (Polynomial E)) (m : List ℕ) → IsTrue (is_reducible o cmp hs m) → (p : ℕ) × (p < length hs) × IsTrue (lead_divides o cmp (get_or hs p []) m) × ((j : ℕ) → j < p → IsFalse (lead_divides o cmp (get_or hs j []) m))
