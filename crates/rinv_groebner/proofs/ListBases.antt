@@ -2,7 +2,7 @@
 --   InIdeal fs x         x lies in the ideal of fs, and in the first v variables
 --   in_ideal, in_ideal-subtract, in_ideal-constant    members; differences; products with a constant
 --   represented          a formal sum in v variables that is a member stands for it
---   list_basis           the elements of a Gröbner basis that are not zero are a basis of this ideal
+--   IsListBasis, list_basis    the elements of a Gröbner basis that are not zero are a basis of this ideal
 use Rattle.std.proofs.Common.{◌≡◌, ℕ, zero, suc, ◌<◌, Bool, true, false, List, [], ◌∷◌, length, get_or, refl, sym, ◌∙◌, ap, subst, arith, IsTrue}
 use Rattle.std.specs.Prelude.{IsFalse}
 use Rattle.std.specs.List.{AllByRecursion}
@@ -45,6 +45,14 @@ pub all_from : {X : Type 0} (P : X → Type 0) (d : X) (xs : List X) → ((k : �
 all_from P d [] h = tt
 all_from P d (x ∷ xs) h = (h 0 (omega arith), all_from P d xs (λ k inside. h (suc k) (omega (arith, inside))))
 
+-- the leading monomial of the element at a place
+abbrev pub place_lead : {E : Type 0} (o : RingOps E) (cmp : List ℕ → List ℕ → Ordering) (hs : List (Polynomial E)) → Place o hs → Monomial
+place_lead o cmp hs k = monomial (leading_monomial o cmp (get_or hs k.0 []))
+
+-- the element at a place
+abbrev pub place_element : {E : Type 0} (o : RingOps E) (hs : List (Polynomial E)) → Place o hs → Class (poly_ops o)
+place_element o hs k = class (poly_ops o) (get_or hs k.0 [])
+
 module _ {E : Type 0} (o : RingOps E) (l : RingLaws o) (v : ℕ) where
   -- it lies in the ideal, and in the first v variables
   abbrev pub InIdeal : List (Polynomial E) → Class (poly_ops o) → Type 0
@@ -78,19 +86,18 @@ module _ {E : Type 0} (o : RingOps E) (l : RingLaws o) (v : ℕ) where
   pub represented : (fs : List (Polynomial E)) (x : Class (poly_ops o)) → InIdeal fs x → ∥ ((f : Polynomial E) × IsTrue (is_in_variables v f) × IsMember o fs f × (class (poly_ops o) f ≡ x)) ∥₁
   represented fs x m = ∥∥₁_elim m ∥∥₁_prop (λ p. ∥∥₁_elim (of-in_variables o l v p.1) ∥∥₁_prop (λ q. ∥∥₁_map (in-member o l fs p.0 q.0 q.2) (λ r. (q.0, q.1, r, q.2))))
 
-  module _ (field : FieldLaws o) (cmp : List ℕ → List ℕ → Ordering) (order : OrdersMonomials cmp v) (fs hs : List (Polynomial E)) (first : AllFirst o l v hs) (members : AreMembers o fs hs) where
-    -- the leading monomial of the element at a place
-    abbrev pub place_lead : Place o hs → Monomial
-    place_lead k = monomial (leading_monomial o cmp (get_or hs k.0 []))
+  module _ (cmp : List ℕ → List ℕ → Ordering) (order : OrdersMonomials cmp v) (fs hs : List (Polynomial E)) where
+    -- the elements that are not zero are a basis of the ideal
+    abbrev pub IsListBasis : Type 0
+    IsListBasis = IsBasis (polynomials o l) (all_monomials cmp v order) (InIdeal fs) {I = Place o hs} (place_lead o cmp hs) (place_element o hs)
 
-    -- the element at a place
-    abbrev pub place_element : Place o hs → Class (poly_ops o)
-    place_element k = class (poly_ops o) (get_or hs k.0 [])
+    -- the leading monomial of each member that is not zero is divided by that of an element
+    abbrev pub AreDivided : Type 0
+    AreDivided = (f : Polynomial E) → IsTrue (is_in_variables v f) → IsMember o fs f → IsFalse (is_zero o f) → IsTrue (is_reducible o cmp hs (leading_monomial o cmp f))
 
-    -- the elements of a Gröbner basis that are not zero are a basis of the ideal
-    pub list_basis : ((f : Polynomial E) → IsTrue (is_in_variables v f) → IsMember o fs f → IsFalse (is_zero o f) → IsTrue (is_reducible o cmp hs (leading_monomial o cmp f)))
-        → IsBasis (polynomials o l) (all_monomials cmp v order) (InIdeal fs) place_lead place_element
-    list_basis divided = record {
+    -- so it is where the elements are members, and divide the leading monomials of the members
+    pub list_basis : FieldLaws o → AllFirst o l v hs → AreMembers o fs hs → AreDivided → IsListBasis
+    list_basis field first members divided = record {
       member = λ k. in_ideal fs (get_or hs k.0 []) (all_at (IsMember o fs) [] hs members k.0 (place-inside o cmp hs k)) (first k.0);
       leads = list-leads o l field cmp v order hs first;
       covers = λ x m n r. ∥∥₁_map (represented fs x m) (λ p. found n p.0 p.1 p.2 (subst (λ y. Leads (polynomials o l) (all_monomials cmp v order) y n) (sym p.3) r));
@@ -103,7 +110,7 @@ module _ {E : Type 0} (o : RingOps E) (l : RingLaws o) (v : ℕ) where
             go false e = refl
             go true e = absurd (r.nonzero (ap (λ x. (polynomials o l).coefficient x n) (class_sound (poly_ops o) (poly_laws o l) f [] e ∙ class-zero (poly_ops o) (poly_laws o l)) ∙ coefficient-zero (polynomials o l) n))
 
-        found : (n : Monomial) (f : Polynomial E) → IsTrue (is_in_variables v f) → IsMember o fs f → Leads (polynomials o l) (all_monomials cmp v order) (class (poly_ops o) f) n → (k : Place o hs) × (s : Monomial) × (monomials.mul s (place_lead k) ≡ n)
+        found : (n : Monomial) (f : Polynomial E) → IsTrue (is_in_variables v f) → IsMember o fs f → Leads (polynomials o l) (all_monomials cmp v order) (class (poly_ops o) f) n → (k : Place o hs) × (s : Monomial) × (monomials.mul s (place_lead o cmp hs k) ≡ n)
         found n f h m r =
             let z = nonzero f n r in
             let (k, (s, e)) = reducible_place o cmp hs (leading_monomial o cmp f) (divided f h m z) in

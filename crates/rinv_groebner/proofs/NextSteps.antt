@@ -69,14 +69,17 @@ module _ {E : Type 0} (o : RingOps E) (l : RingLaws o) (field : FieldLaws o) (cm
       some {x} k =
           let m : List ℕ = unwrap_or (reduce (λ a b. if is_lt (cmp a b) then b else a) (candidates f)) [] in
           let r : Has m (candidates f) × ((z : List ℕ) → Has z (candidates f) → IsTrue (is_ge (cmp m z))) = reduced cmp order.laws.total (candidates f) [] k in
-          let (p, inside, divides, first) = first_divisor o cmp hs m (filter-passes (is_reducible o cmp hs) (monomials o f) r.0) in
-          (m, p, record {
-            has = filter-passes (has_monomial o f) (map (λ t. t.0) f) (filter-within (is_reducible o cmp hs) m (monomials o f) r.0);
-            greatest = λ e h d. let (a, j, s) = listed f e h d in subst (λ (c : Ordering). IsTrue (is_ge c)) (compare-right cmp v order m a e s) (r.1 a j);
-            inside = inside;
-            divides = divides;
-            first = first;
-          })
+          let (p, inside, divides, first) = first_divisor o cmp hs m (filter-passes (is_reducible o cmp hs) (monomials o f) r.0) in (
+            m,
+            p,
+            record {
+              has = filter-passes (has_monomial o f) (map (λ t. t.0) f) (filter-within (is_reducible o cmp hs) m (monomials o f) r.0);
+              greatest = λ e h d. let (a, j, s) = listed f e h d in subst (λ (c : Ordering). IsTrue (is_ge c)) (compare-right cmp v order m a e s) (r.1 a j);
+              inside = inside;
+              divides = divides;
+              first = first;
+            },
+          )
 
       go : (ms : List (List ℕ)) → candidates f ≡ ms → ((m : List ℕ) × (p : ℕ) × IsNext o cmp hs f m p) ⊎ IsIrreducible o cmp hs f
       go [] e = inr (λ m h. none e m h (is_reducible o cmp hs m) refl)
@@ -91,14 +94,18 @@ module _ {E : Type 0} (o : RingOps E) (l : RingLaws o) (field : FieldLaws o) (cm
       let h = get_or hs p [] in
       let both = divides-parts o cmp h m n.divides in
       let inverse = lead-inverse o l field cmp v order h both.0 in
-      let s : Step E = record { place = p; multiplier = (quotient m (leading_monomial o cmp h), o.mul (coefficient o f m) inverse.0) } in
-      (s, difference o f (term_product o s.multiplier h), record {
-        cancelled = m;
-        next = n;
-        monomial = product-quotient m (leading_monomial o cmp h) both.1;
-        coefficient = over_lead (coefficient o f m) (leading_coefficient o cmp h) inverse.0 inverse.1;
-        taken = (poly_laws o l).same_refl _;
-      }, refl)
+      let s : Step E = record { place = p; multiplier = (quotient m (leading_monomial o cmp h), o.mul (coefficient o f m) inverse.0) } in (
+        s,
+        difference o f (term_product o s.multiplier h),
+        record {
+          cancelled = m;
+          next = n;
+          monomial = product-quotient m (leading_monomial o cmp h) both.1;
+          coefficient = over_lead (coefficient o f m) (leading_coefficient o cmp h) inverse.0 inverse.1;
+          taken = (poly_laws o l).same_refl _;
+        },
+        refl,
+      )
 
   module _ (first : AllFirst o l v hs) where
     -- steps to a rest that is irreducible

@@ -25,7 +25,7 @@ use Rattle.rinv_groebner.specs.Basis.{IsGroebnerBasis, AreMembers}
 use Rattle.rinv_groebner.specs.Reduced.{IsNormalForm}
 use Rattle.rinv_groebner.proofs.Bases.{normal-unique}
 use Rattle.rinv_groebner.proofs.Compared.{all_monomials, InFirst, has-coefficient, coefficient-has}
-use Rattle.rinv_groebner.proofs.ListBases.{all_at, in_ideal, first-difference, InIdeal, list_basis}
+use Rattle.rinv_groebner.proofs.ListBases.{all_at, in_ideal, first-difference, InIdeal, IsListBasis}
 use Rattle.rinv_groebner.proofs.ListElements.{Place, AllFirst}
 use Rattle.rinv_groebner.proofs.MemberLists.{member-same, member_zero, member-add, member-subtract, member-term}
 use Rattle.rinv_groebner.proofs.Reducible.{place_reducible}
@@ -122,14 +122,13 @@ module _ {E : Type 0} (o : RingOps E) (l : RingLaws o) (cmp : List ℕ → List 
   pub division-normal_form : (fs hs : List (Polynomial E)) → AreMembers o fs hs → (f : Polynomial E) (steps : List (Step E)) (rest : Polynomial E) → IsDivision o cmp hs f steps rest → IsNormalForm o cmp fs hs f rest
   division-normal_form fs hs members f steps rest d = record { congruent = steps-congruent fs hs members f steps rest d.by_steps; irreducible = d.irreducible }
 
-  module _ (field : FieldLaws o) (v : ℕ) (order : OrdersMonomials cmp v) where
+  module _ (v : ℕ) (order : OrdersMonomials cmp v) where
     -- congruent sums have one normal form
-    pub normal_form-unique : (fs hs hs' : List (Polynomial E)) → AllFirst o l v hs → AllFirst o l v hs' → IsGroebnerBasis o cmp v fs hs → IsGroebnerBasis o cmp v fs hs'
+    pub normal_form-unique : (fs hs hs' : List (Polynomial E)) → IsListBasis o l v cmp order fs hs → IsListBasis o l v cmp order fs hs'
         → (f g r s : Polynomial E) → InFirst o l v r → InFirst o l v s → IsMember o fs (difference o f g) → IsNormalForm o cmp fs hs f r → IsNormalForm o cmp fs hs' g s → IsSame (poly_ops o) r s
-    normal_form-unique fs hs hs' first first' b b' f g r s rf sf m p q = class_exact (poly_ops o) (poly_laws o l) r s (
+    normal_form-unique fs hs hs' b b' f g r s rf sf m p q = class_exact (poly_ops o) (poly_laws o l) r s (
         normal-unique (polynomials o l) (all_monomials cmp v order) (InIdeal o l v fs) (class_dec o l)
-        (list_basis o l v field cmp order fs hs first b.ideal.0 b.divided) (list_basis o l v field cmp order fs hs' first' b'.ideal.0 b'.divided)
-        (class (poly_ops o) r) (class (poly_ops o) s) congruent (irreducible-coefficient hs r p.irreducible) (irreducible-coefficient hs' s q.irreducible))
+        b b' (class (poly_ops o) r) (class (poly_ops o) s) congruent (irreducible-coefficient hs r p.irreducible) (irreducible-coefficient hs' s q.irreducible))
       where
         member : IsMember o fs (difference o r s)
         member = member-same o l fs (difference o (difference o f g) (difference o f r) ++ difference o g s) (difference o r s) (class_exact (poly_ops o) (poly_laws o l) _ _ (
@@ -142,8 +141,8 @@ module _ {E : Type 0} (o : RingOps E) (l : RingLaws o) (cmp : List ℕ → List 
         congruent = subst (InIdeal o l v fs) (class-difference o l r s) (in_ideal o l v fs (difference o r s) member (first-difference o l v r s rf sf))
 
     -- a sum is a member exactly where its normal form is zero
-    pub normal_form-zero : (fs hs : List (Polynomial E)) → AllFirst o l v hs → IsGroebnerBasis o cmp v fs hs → (f r : Polynomial E) → InFirst o l v r → IsNormalForm o cmp fs hs f r → IsMember o fs f → IsTrue (is_zero o r)
-    normal_form-zero fs hs first b f r rf p m = normal_form-unique fs hs hs first first b b f f r [] rf (in_variables-of o l v [] refl) (member_zero o l fs (difference o f f) nothing) p zero_form
+    pub normal_form-zero : (fs hs : List (Polynomial E)) → IsListBasis o l v cmp order fs hs → (f r : Polynomial E) → InFirst o l v r → IsNormalForm o cmp fs hs f r → IsMember o fs f → IsTrue (is_zero o r)
+    normal_form-zero fs hs b f r rf p m = normal_form-unique fs hs hs b b f f r [] rf (in_variables-of o l v [] refl) (member_zero o l fs (difference o f f) nothing) p zero_form
       where
         nothing : IsSame (poly_ops o) (difference o f f) []
         nothing = class_exact (poly_ops o) (poly_laws o l) _ _ (class-difference o l f f ∙ add_neg (poly_ring o l) _ ∙ sym (class-zero (poly_ops o) (poly_laws o l)))
