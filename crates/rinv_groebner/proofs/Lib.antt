@@ -28,3 +28,4 @@ pub mod NormalForms
 pub mod Paths
 pub mod NextSteps
 pub mod UniqueSteps
+pub mod ReducedLists
