@@ -29,3 +29,4 @@ pub mod Paths
 pub mod NextSteps
 pub mod UniqueSteps
 pub mod ReducedLists
+pub mod Kept
