@@ -1,7 +1,9 @@
--- The elements of a list that are kept: their leading monomials divide all others, and no two of theirs divide each other.
+-- The elements of a list that are kept.
+--   place_of, none_passes    the place of an element of a list; where no element passes a test, none does
 --   kept-in              a kept element is one of the list
---   kept_divides         the leading monomial of each element is divided by that of a kept one
---   kept-apart           no leading monomial of a kept element divides that of another
+--   kept_or              what stands against an element that is not kept
+--   kept-minimal         no leading monomial of the list properly divides that of a kept element
+--   kept-differ          no two kept elements have one leading monomial
 use Rattle.std.proofs.Common.{◌≡◌, ◌⊎◌, ℕ, zero, suc, ◌<◌, Bool, true, false, not, cond, ◌&&◌, List, [], ◌∷◌, ◌++◌, length, take, get_or, refl, sym, ◌∙◌, ap, subst, inl, inr, arith, IsTrue, true≢false}
 use Rattle.std.specs.Prelude.{IsFalse}
 use Rattle.std.specs.List.{list_any}
@@ -33,7 +35,7 @@ place_of d (x ∷ xs) Has.first = (0, (omega arith), refl)
 place_of d (x ∷ xs) (Has.later h) = let (k, inside, e) = place_of d xs h in (suc k, (omega (arith, inside)), e)
 
 -- where no element passes a test, none does
-none_passes : {X : Type 0} (test : X → Bool) (xs : List X) {x : X} → Has x xs → list_any test xs ≡ false → test x ≡ false
+pub none_passes : {X : Type 0} (test : X → Bool) (xs : List X) {x : X} → Has x xs → list_any test xs ≡ false → test x ≡ false
 none_passes test [] h e = elim h [ ]
 none_passes test (x ∷ xs) Has.first e = grind (arith, nat_tests, e)
 none_passes test (x ∷ xs) (Has.later h) e = let rest : list_any test xs ≡ false = grind (arith, nat_tests, e) in none_passes test xs h rest
@@ -84,7 +86,7 @@ module _ {E : Type 0} (o : RingOps E) (cmp : List ℕ → List ℕ → Ordering)
       go false e m again = more (again m)
 
   -- an element is kept, or another leading monomial properly divides its own, or an earlier element has the same one
-  kept_or : (earlier hs : List (Polynomial E)) (i : ℕ) → i < length hs
+  pub kept_or : (earlier hs : List (Polynomial E)) (i : ℕ) → i < length hs
       → Has (get_or hs i []) (kept_after o cmp all earlier hs) ⊎ (list_any (λ g. properly_divides o cmp g (get_or hs i [])) all ≡ true) ⊎ (list_any (λ g. same_lead o cmp g (get_or hs i [])) (earlier ++ take i hs) ≡ true)
   unfolding kept_after
   kept_or earlier [] i inside = absurd (omega arith)
@@ -111,7 +113,7 @@ module _ {E : Type 0} (o : RingOps E) (cmp : List ℕ → List ℕ → Ordering)
       go b (inr (inr q)) = inr (inr (ap (list_any (λ g. same_lead o cmp g (get_or hs i []))) (sym (append_assoc earlier (x ∷ []) (take i hs))) ∙ q))
 
   -- no leading monomial of the whole list properly divides that of a kept element, and no earlier one is the same
-  kept-minimal : (earlier hs : List (Polynomial E)) {g : Polynomial E} → Has g (kept_after o cmp all earlier hs) → list_any (λ h. properly_divides o cmp h g) all ≡ false
+  pub kept-minimal : (earlier hs : List (Polynomial E)) {g : Polynomial E} → Has g (kept_after o cmp all earlier hs) → list_any (λ h. properly_divides o cmp h g) all ≡ false
   kept-minimal earlier hs {g} h = let (between, e) = kept-passes earlier hs h in left (list_any (λ h. properly_divides o cmp h g) all) (list_any (λ h. same_lead o cmp h g) (earlier ++ between)) e
     where
       left : (p q : Bool) → (not p && not q) ≡ true → p ≡ false
@@ -126,7 +128,8 @@ module _ {E : Type 0} (o : RingOps E) (cmp : List ℕ → List ℕ → Ordering)
       right false true e = absurd (true≢false (sym e))
       right true q e = absurd (true≢false (sym e))
 
-  kept-differ : (earlier hs : List (Polynomial E)) (i j : ℕ) → i < j → j < length (kept_after o cmp all earlier hs) → same_lead o cmp (get_or (kept_after o cmp all earlier hs) i []) (get_or (kept_after o cmp all earlier hs) j []) ≡ false
+  -- two kept elements have different leading monomials
+  pub kept-differ : (earlier hs : List (Polynomial E)) (i j : ℕ) → i < j → j < length (kept_after o cmp all earlier hs) → same_lead o cmp (get_or (kept_after o cmp all earlier hs) i []) (get_or (kept_after o cmp all earlier hs) j []) ≡ false
   unfolding kept_after
   kept-differ earlier [] i j below inside = absurd (omega arith)
   kept-differ earlier (x ∷ hs) i j below inside = go (is_kept o cmp all earlier x) i j below inside (λ i j below inside. kept-differ (earlier ++ x ∷ []) hs i j below inside)

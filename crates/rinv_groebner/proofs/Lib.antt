@@ -30,3 +30,4 @@ pub mod NextSteps
 pub mod UniqueSteps
 pub mod ReducedLists
 pub mod Kept
+pub mod KeptDivisors
