@@ -31,3 +31,8 @@ pub mod UniqueSteps
 pub mod ReducedLists
 pub mod Kept
 pub mod KeptDivisors
+pub mod StepSums
+pub mod StepMultiples
+pub mod GoodPairs
+pub mod PairsOfLists
+pub mod MembersOfLists
