@@ -13,7 +13,7 @@ use Rattle.rinv_groebner.specs.Division.{Step, Steps, IsDivision}
 use Rattle.rinv_groebner.specs.Basis.{AreMembers}
 use Rattle.rinv_groebner.proofs.Ascending.{Has}
 use Rattle.rinv_groebner.proofs.Compared.{InFirst, first-same}
-use Rattle.rinv_groebner.proofs.ListBases.{all_from, AreDivided, list_basis}
+use Rattle.rinv_groebner.proofs.IdealBases.{all_from, AreDivided, list_basis}
 use Rattle.rinv_groebner.proofs.ListElements.{AllFirst}
 use Rattle.rinv_groebner.proofs.MemberLists.{member_one}
 use Rattle.rinv_groebner.proofs.NextSteps.{division_exists}

@@ -22,6 +22,7 @@ pub mod Compared
 pub mod ListElements
 pub mod Reducible
 pub mod ListBases
+pub mod IdealBases
 pub mod StepClasses
 pub mod Generates
 pub mod NormalForms
@@ -36,3 +37,4 @@ pub mod StepMultiples
 pub mod GoodPairs
 pub mod PairsOfLists
 pub mod MembersOfLists
+pub mod MadeAt

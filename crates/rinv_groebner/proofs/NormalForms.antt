@@ -25,7 +25,7 @@ use Rattle.rinv_groebner.specs.Basis.{IsGroebnerBasis, AreMembers}
 use Rattle.rinv_groebner.specs.Reduced.{IsNormalForm}
 use Rattle.rinv_groebner.proofs.Bases.{normal-unique}
 use Rattle.rinv_groebner.proofs.Compared.{all_monomials, InFirst, has-coefficient, coefficient-has}
-use Rattle.rinv_groebner.proofs.ListBases.{all_at, in_ideal, first-difference, InIdeal, IsListBasis}
+use Rattle.rinv_groebner.proofs.IdealBases.{all_at, in_ideal, first-difference, InIdeal, IsListBasis}
 use Rattle.rinv_groebner.proofs.ListElements.{Place, AllFirst}
 use Rattle.rinv_groebner.proofs.MemberLists.{member-same, member_zero, member-add, member-subtract, member-term}
 use Rattle.rinv_groebner.proofs.Reducible.{place_reducible}
@@ -90,7 +90,8 @@ module _ {E : Type 0} (o : RingOps E) (l : RingLaws o) (cmp : List ℕ → List 
         ∙ ap₂ (class_ring o l).add (reducible-zero hs r p.irreducible m e) (reducible-zero hs s q.irreducible m e) ∙ (class_ring o l).zero_add _);
   }
 
-  class-scale : (c : E) (f : Polynomial E) → class (poly_ops o) (scale o c f) ≡ (poly_ring o l).mul ((polynomials o l).term (class o c) monomials.one) (class (poly_ops o) f)
+  -- the class of a product with a constant
+  pub class-scale : (c : E) (f : Polynomial E) → class (poly_ops o) (scale o c f) ≡ (poly_ring o l).mul ((polynomials o l).term (class o c) monomials.one) (class (poly_ops o) f)
   class-scale c f = class-term_product o l ([], c) f ∙ ap (λ m. (poly_ring o l).mul ((polynomials o l).term (class o c) m) (class (poly_ops o) f)) monomial-one
 
   -- a product with a constant

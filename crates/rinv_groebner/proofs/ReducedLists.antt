@@ -33,7 +33,7 @@ use Rattle.rinv_groebner.proofs.Ascending.{Has, Bounds, Ascends, ascending-equal
 use Rattle.rinv_groebner.proofs.Bases.{IsReduced, reduced-unique}
 use Rattle.rinv_groebner.proofs.Compared.{all_monomials, InFirst, less_below, coefficient-has, nonzero-front}
 use Rattle.rinv_groebner.proofs.FirstVariables.{order_in-well}
-use Rattle.rinv_groebner.proofs.ListBases.{InIdeal, in_ideal-subtract, IsListBasis, list_basis, place_lead, place_element}
+use Rattle.rinv_groebner.proofs.IdealBases.{InIdeal, in_ideal-subtract, IsListBasis, list_basis, place_lead, place_element}
 use Rattle.rinv_groebner.proofs.ListElements.{Place, AllFirst, list-leads}
 use Rattle.rinv_groebner.proofs.MemberLists.{member_trans}
 use Rattle.rinv_groebner.proofs.MonomialLists.{divisor-divides}
