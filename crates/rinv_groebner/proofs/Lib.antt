@@ -38,3 +38,4 @@ pub mod GoodPairs
 pub mod PairsOfLists
 pub mod MembersOfLists
 pub mod MadeAt
+pub mod MadeLists

@@ -1,0 +1,89 @@
+-- What is made of a Gröbner basis is the reduced Gröbner basis of its ideal.
+--   kept_first, kept_members, kept_nonzero    facts of the kept elements
+--   made_reduced         what is made is a reduced Gröbner basis
+use Rattle.std.proofs.Common.{◌≡◌, ℕ, ◌<◌, Bool, true, false, not, List, [], length, get_or, refl, sym, ◌∙◌, ap, subst, IsTrue, true≢false}
+use Rattle.std.specs.Prelude.{IsFalse}
+use Rattle.std.specs.List.{list_all}
+use Rattle.std.specs.declared.cmp.Ordering.{Ordering}
+use Rattle.rinv_algebra.specs.Ring.{RingOps, RingLaws, FieldLaws, IsSame}
+use Rattle.rinv_algebra.specs.Polynomial.{Polynomial, has_monomial, is_zero}
+use Rattle.rinv_algebra.specs.Ideal.{IsMember}
+use Rattle.rinv_algebra.specs.Leading.{leading_monomial}
+use Rattle.rinv_theory.proofs.Monoid.{Monomial, monomial}
+use Rattle.rinv_theory.proofs.Variables.{in_variables-of}
+use Rattle.rinv_groebner.specs.Orders.{OrdersMonomials}
+use Rattle.rinv_groebner.specs.Division.{lead_divides}
+use Rattle.rinv_groebner.specs.Basis.{IsGroebnerBasis, AreMembers, GenerateOneIdeal}
+use Rattle.rinv_groebner.specs.Reduced.{kept, AreMade, IsReducedGroebnerBasis}
+use Rattle.rinv_groebner.proofs.Ascending.{Has}
+use Rattle.rinv_groebner.proofs.Compared.{InFirst}
+use Rattle.rinv_groebner.proofs.Generates.{has_at, generates}
+use Rattle.rinv_groebner.proofs.IdealBases.{all_from, all_has, AreDivided}
+use Rattle.rinv_groebner.proofs.Kept.{place_of, kept-in}
+use Rattle.rinv_groebner.proofs.KeptDivisors.{kept_divides, kept-apart}
+use Rattle.rinv_groebner.proofs.ListElements.{AllFirst}
+use Rattle.rinv_groebner.proofs.MadeAt.{first_from, IsFrom, made_from}
+use Rattle.rinv_groebner.proofs.MonomialLists.{Divisor, divides-divisor, divisor-divides, divisor_trans}
+use Rattle.rinv_groebner.proofs.ReducedLists.{members_trans}
+use Rattle.rinv_groebner.proofs.Reducible.{divides-parts, parts_divide, place-inside, place_reducible, reducible_place}
+
+module _ {E : Type 0} (o : RingOps E) (l : RingLaws o) (field : FieldLaws o) (cmp : List ℕ → List ℕ → Ordering) (v : ℕ) (order : OrdersMonomials cmp v) (fs hs gs : List (Polynomial E))
+    (first : AllFirst o l v hs) (nonzero : (h : Polynomial E) → Has h hs → IsFalse (is_zero o h)) (basis : IsGroebnerBasis o cmp v fs hs) (made : AreMade o cmp hs gs) where
+  abbrev ks : List (Polynomial E)
+  ks = kept o cmp hs
+
+  abbrev lead_of : Polynomial E → Monomial
+  lead_of g = monomial (leading_monomial o cmp g)
+
+  in_list : {h : Polynomial E} → Has h ks → Has h hs
+  in_list m = kept-in o cmp hs [] hs m
+
+  kept_first : (h : Polynomial E) → Has h ks → InFirst o l v h
+  kept_first h m = let (p, inside, e) = place_of [] hs (in_list m) in subst (InFirst o l v) e (first p)
+
+  kept_members : AreMembers o fs ks
+  kept_members = all_from (IsMember o fs) [] ks (λ k inside. all_has (IsMember o fs) hs basis.ideal.0 (in_list (has_at [] ks k inside)))
+
+  kept_nonzero : (h : Polynomial E) → Has h ks → IsFalse (is_zero o h)
+  kept_nonzero h m = nonzero h (in_list m)
+
+  abbrev From : ℕ → Polynomial E → Type 0
+  From = IsFrom o l cmp v order field fs ks kept_first kept_members kept_nonzero (kept-apart o cmp hs)
+
+  from : (k : ℕ) → k < length gs → From k (get_or gs k [])
+  from k inside = made_from o l cmp v order field fs ks kept_first kept_members kept_nonzero (kept-apart o cmp hs) k (subst (λ (n : ℕ). k < n) made.number inside) (get_or gs k []) (made.made k inside)
+
+  made_first : AllFirst o l v gs
+  made_first = first_from o l v gs (λ g m. let (k, inside, e) = place_of [] gs m in subst (InFirst o l v) e (from k inside).in_first)
+
+  made_members : AreMembers o fs gs
+  made_members = all_from (IsMember o fs) [] gs (λ k inside. (from k inside).member)
+
+  made_divided : AreDivided o l v cmp order fs gs
+  made_divided f h m n =
+      let ((p, z), d) = reducible_place o cmp hs (leading_monomial o cmp f) (basis.divided f h m n) in
+      let (k, there, c) = kept_divides o cmp hs p (place-inside o cmp hs (p, z)) in
+      let inside : k < length gs = subst (λ (n : ℕ). k < n) (sym made.number) there in
+      place_reducible o cmp gs (leading_monomial o cmp f) (k, (from k inside).nonzero) (subst (λ x. Divisor x (lead_of f)) (sym (from k inside).lead) (divisor_trans _ _ _ c d))
+
+  -- the ideal is the same
+  same_ideal : GenerateOneIdeal o fs gs
+  same_ideal = (
+    made_members,
+    members_trans o l gs hs fs (all_from (IsMember o gs) [] hs (λ k inside. generates o l cmp v order gs made_first field fs made_members made_divided (get_or hs k []) (first k) (all_has (IsMember o fs) hs basis.ideal.0 (has_at [] hs k inside)))) basis.ideal.1,
+  )
+
+  -- what is made is a reduced Gröbner basis
+  pub made_reduced : IsReducedGroebnerBasis o cmp v fs gs
+  made_reduced = record {
+    basis = record { ideal = same_ideal; divided = made_divided };
+    monic = λ k inside. (from k inside).monic;
+    apart = λ i j low high differ m has. off i j low high differ m has (lead_divides o cmp (get_or gs j []) m) refl;
+  }
+    where
+      off : (i j : ℕ) → i < length gs → j < length gs → (i ≡ j → ⊥) → (m : List ℕ) → IsTrue (has_monomial o (get_or gs i []) m) → (b : Bool) → lead_divides o cmp (get_or gs j []) m ≡ b → b ≡ false
+      off i j low high differ m has false e = refl
+      off i j low high differ m has true e =
+          let there : j < length ks = subst (λ (n : ℕ). j < n) made.number high in
+          absurd (true≢false (sym (parts_divide o cmp (get_or ks j []) m (kept_nonzero _ (has_at [] ks j there)) (divisor-divides _ m (subst (λ x. Divisor x (monomial m)) (from j high).lead (divides-divisor _ m (divides-parts o cmp (get_or gs j []) m e).1))))
+              ∙ (from i low).irreducible j there (λ q. differ (sym q)) m has))
