@@ -39,3 +39,4 @@ pub mod PairsOfLists
 pub mod MembersOfLists
 pub mod MadeAt
 pub mod MadeLists
+pub mod BlockElimination

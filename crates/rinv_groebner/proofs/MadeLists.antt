@@ -86,4 +86,4 @@ module _ {E : Type 0} (o : RingOps E) (l : RingLaws o) (field : FieldLaws o) (cm
       off i j low high differ m has true e =
           let there : j < length ks = subst (λ (n : ℕ). j < n) made.number high in
           absurd (true≢false (sym (parts_divide o cmp (get_or ks j []) m (kept_nonzero _ (has_at [] ks j there)) (divisor-divides _ m (subst (λ x. Divisor x (monomial m)) (from j high).lead (divides-divisor _ m (divides-parts o cmp (get_or gs j []) m e).1))))
-              ∙ (from i low).irreducible j there (λ q. differ (sym q)) m has))
+          ∙ (from i low).irreducible j there (λ q. differ (sym q)) m has))
