@@ -7,6 +7,7 @@ use Rattle.std.proofs.Common.{◌≡◌, ℕ, zero, suc, ◌<◌, Bool, true, fa
 use Rattle.std.specs.Prelude.{IsFalse}
 use Rattle.std.specs.List.{AllByRecursion}
 use Rattle.std.specs.declared.cmp.Ordering.{Ordering}
+use mathlib.Core.Bool.{Bool-set}
 use mathlib.Core.Logic.{∥∥₁_elim, ∥∥₁_prop, ∥∥₁_map}
 use Rattle.rinv_algebra.specs.Ring.{RingOps, RingLaws, FieldLaws}
 use Rattle.rinv_algebra.specs.Polynomial.{Polynomial, poly_ops, is_zero, difference}
@@ -33,7 +34,7 @@ use Rattle.rinv_groebner.proofs.Bases.{IsBasis}
 use Rattle.rinv_groebner.proofs.Compared.{all_monomials, InFirst, class_leads}
 use Rattle.rinv_groebner.proofs.ListElements.{Place, AllFirst, list-leads}
 use Rattle.rinv_groebner.proofs.StepClasses.{class-difference}
-use Rattle.rinv_groebner.proofs.Reducible.{place-inside, reducible_place}
+use Rattle.rinv_groebner.proofs.Reducible.{place-inside, reducible_place, place_reducible}
 
 -- a fact of each element of a list, at a place
 pub all_at : {X : Type 0} (P : X → Type 0) (d : X) (xs : List X) → AllByRecursion P xs → (k : ℕ) → k < length xs → P (get_or xs k d)
@@ -123,3 +124,7 @@ module _ {E : Type 0} (o : RingOps E) (l : RingLaws o) (v : ℕ) where
             let z = leads-nonzero o l (all_monomials cmp v order) f n r in
             let (k, (s, e)) = reducible_place o cmp hs (leading_monomial o cmp f) (divided f h m z) in
             (k, s, e ∙ lead-unique (polynomials o l) (all_monomials cmp v order) (class_leads o l v cmp order f (in_variables-of o l v f h) z) r)
+
+    -- of sums of terms in v variables, however they are written
+    pub divided_first : IsListBasis → (f : Polynomial E) → InFirst o l v f → IsMember o fs f → IsFalse (is_zero o f) → IsTrue (is_reducible o cmp hs (leading_monomial o cmp f))
+    divided_first b f r m n = ∥∥₁_elim (b.covers (class (poly_ops o) f) (in_ideal fs f m r) (monomial (leading_monomial o cmp f)) (class_leads o l v cmp order f r n)) (Bool-set _ _) (λ c. place_reducible o cmp hs (leading_monomial o cmp f) c.0 (c.1, c.2))

@@ -53,7 +53,7 @@ none_before test (x ∷ xs) ys e =
     grind (arith, nat_tests, first, again)
 
 -- the first element, or a later one
-split : {X : Type 0} {x y : X} {xs : List X} → Has y (x ∷ xs) → (y ≡ x) ⊎ Has y xs
+pub split : {X : Type 0} {x y : X} {xs : List X} → Has y (x ∷ xs) → (y ≡ x) ⊎ Has y xs
 split Has.first = inl refl
 split (Has.later h) = inr h
 

@@ -40,3 +40,4 @@ pub mod MembersOfLists
 pub mod MadeAt
 pub mod MadeLists
 pub mod BlockElimination
+pub mod EliminationLists

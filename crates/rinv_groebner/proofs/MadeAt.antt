@@ -76,7 +76,7 @@ module _ {R : Type 0} (𝓡 : CRing R) where
   without_zero : (x : R) → 𝓡.add x (𝓡.neg 𝓡.zero) ≡ x
   without_zero x = ring 𝓡 (x ∷ []) (search reading depth 30) refl
 
-  twice : (x y : R) → 𝓡.add x (𝓡.neg (𝓡.add x (𝓡.neg y))) ≡ y
+  pub twice : (x y : R) → 𝓡.add x (𝓡.neg (𝓡.add x (𝓡.neg y))) ≡ y
   twice x y = ring 𝓡 (x ∷ y ∷ []) (search reading depth 30) refl
 
 module _ {E : Type 0} (o : RingOps E) (l : RingLaws o) (cmp : List ℕ → List ℕ → Ordering) (v : ℕ) (order : OrdersMonomials cmp v) where

@@ -1,0 +1,171 @@
+-- Elimination, for lists of polynomials.
+--   free_lead            where the leading monomial is free of the first variables, each monomial is
+--   steps-bounded        cancelling steps do not raise the leading monomial
+--   part_basis           the part of a Gröbner basis that is free is one of the free polynomials of the ideal
+--   part-monic, part-apart, part-ascends    what a reduced basis has, its part has
+use Rattle.std.proofs.Common.{◌≡◌, ◌⊎◌, ℕ, zero, suc, ◌≤◌, ◌<◌, Bool, true, false, not, cond, List, [], ◌∷◌, length, take, sum, get_or, filter, refl, sym, ◌∙◌, ap, ap₂, subst, inl, inr, arith, IsTrue, true≢false}
+use Rattle.std.specs.Prelude.{IsFalse, ◌==◌, nat_lt}
+use Rattle.std.specs.List.{AllByRecursion, AllPairs}
+use Rattle.std.specs.declared.cmp.Ordering.{Ordering}
+use Rattle.std.specs.declared.cmp.Ordering.TheVariants.{Less}
+use Rattle.std.proofs.lemmas.Bool.{cases_Bool, eqb-true}
+use Rattle.std.proofs.lemmas.Bool.Decides.{nat_tests}
+use Rattle.std.proofs.lemmas.List.Kept.{AllPairs-filter}
+use Rattle.std.proofs.Math.Seq.{take-nil}
+use Rattle.std.proofs.lemmas.List.Sums.{sum_by-cons}
+use Rattle.rinv_algebra.specs.Ring.{RingOps, RingLaws, FieldLaws, IsSame}
+use Rattle.rinv_algebra.specs.Monomial.{divides}
+use Rattle.rinv_algebra.specs.Polynomial.{Polynomial, poly_ops, has_monomial, is_zero, difference}
+use Rattle.rinv_algebra.specs.Normal.{is_in_variables}
+use Rattle.rinv_algebra.specs.Ideal.{IsMember}
+use Rattle.rinv_algebra.specs.Leading.{leading_monomial}
+use Rattle.rinv_theory.proofs.CRing.{CRing}
+use Rattle.rinv_theory.proofs.Solver.{ring, reading}
+use Rattle.rinv_theory.proofs.Classes.{class, class_ring, class_sound, class_exact}
+use Rattle.rinv_algebra.proofs.PolynomialLaws.{poly_laws}
+use Rattle.rinv_theory.proofs.Monoid.{Monomial, monomial}
+use Rattle.rinv_theory.proofs.TermRing.{coefficient-neg}
+use Rattle.rinv_theory.proofs.Polynomials.{polynomials, poly_ring, term_at}
+use Rattle.rinv_theory.proofs.Of.{of-coefficient}
+use Rattle.rinv_theory.proofs.Variables.{in_variables-of}
+use Rattle.rinv_theory.proofs.Leads.{IsUpTo, upto-below}
+use Rattle.rinv_groebner.specs.Orders.{OrdersMonomials}
+use Rattle.rinv_groebner.specs.Division.{Step, Steps, IsDivision, is_reducible, lead_divides}
+use Rattle.rinv_groebner.specs.Basis.{IsGroebnerBasis, AreMembers}
+use Rattle.rinv_groebner.specs.Elimination.{is_free, Eliminates, IsFreeOf, free_part, IsEliminationBasis}
+use Rattle.rinv_groebner.specs.Reduced.{AreMonic, AreApart, Ascend}
+use Rattle.rinv_groebner.proofs.Ascending.{Has}
+use Rattle.rinv_groebner.proofs.Compared.{all_monomials, InFirst, class_leads, has_front, has-coefficient, less_below}
+use Rattle.rinv_groebner.proofs.Generates.{has_at, own_members, steps-first}
+use Rattle.rinv_groebner.proofs.Greatest.{has-filter, filter-passes, not_less}
+use Rattle.rinv_groebner.proofs.IdealBases.{all_from, all_has, IsListBasis, list_basis, divided_first}
+use Rattle.rinv_groebner.proofs.Kept.{split, place_of}
+use Rattle.rinv_groebner.proofs.LeadingMonomials.{leading_monomial-leads}
+use Rattle.rinv_groebner.proofs.ListElements.{Place, AllFirst}
+use Rattle.rinv_groebner.proofs.MadeAt.{first_from, twice}
+use Rattle.rinv_groebner.proofs.MemberLists.{member-same, member_zero, member-subtract}
+use Rattle.rinv_groebner.proofs.MonomialLists.{Divisor, divisor-divides}
+use Rattle.rinv_groebner.proofs.NextSteps.{division_exists}
+use Rattle.rinv_groebner.proofs.NormalForms.{steps-congruent, division-normal_form, zero-member}
+use Rattle.rinv_groebner.proofs.Reducible.{reducible_place, place_reducible, place-inside}
+use Rattle.rinv_groebner.proofs.StepClasses.{class-difference, step-class, multiple-of}
+
+-- an element of a filtered list is one of the list
+filter-in : {A : Type 0} (test : A → Bool) {x : A} (xs : List A) → Has x (filter test xs) → Has x xs
+filter-in test [] h = h
+filter-in test {x} (y ∷ xs) h = go (test y) h (λ m. Has.later (filter-in test xs m))
+  where
+    go : (b : Bool) → Has x (cond b (y ∷ filter test xs) (filter test xs)) → (Has x (filter test xs) → Has x (y ∷ xs)) → Has x (y ∷ xs)
+    go true m again = elim (split m) [ inl e ↦ subst (λ z. Has z (y ∷ xs)) (sym e) Has.first | inr k ↦ again k ]
+    go false m again = again m
+
+-- a divisor has no greater degree in the first variables
+divides-degree : (k : ℕ) (a b : List ℕ) → IsTrue (divides a b) → sum (take k a) ≤ sum (take k b)
+unfolding divides
+divides-degree zero a b d = omega arith
+divides-degree (suc k) [] b d = omega arith
+divides-degree (suc k) (x ∷ a) [] d =
+    let rest = divides-degree k a [] (grind (arith, nat_tests, d)) in
+    let first : x ≡ 0 = grind (arith, nat_tests, d) in
+    let none : sum (take k []) ≡ 0 = ap sum (take-nil k) in
+    omega (arith, rest, first, none, sum_by-cons (λ (n : ℕ). n) x (take k a))
+divides-degree (suc k) (x ∷ a) (y ∷ b) d =
+    let rest = divides-degree k a b (grind (arith, nat_tests, d)) in
+    let first : x ≤ y = grind (arith, nat_tests, d) in
+    omega (arith, rest, first, sum_by-cons (λ (n : ℕ). n) x (take k a), sum_by-cons (λ (n : ℕ). n) y (take k b))
+
+-- so a divisor of a monomial free of them is free
+pub divides-free : (k : ℕ) (a b : List ℕ) → IsTrue (divides a b) → IsTrue (is_free k b) → IsTrue (is_free k a)
+divides-free k a b d z = let low = divides-degree k a b d in let e : sum (take k b) ≡ 0 = eqb-true _ _ z in ap (λ (n : ℕ). n == 0) {x = sum (take k a)} {y = 0} (omega (arith, low, e))
+
+module _ {R : Type 0} (𝓡 : CRing R) where
+  zeros : (x : R) → x ≡ 𝓡.zero → 𝓡.add 𝓡.zero (𝓡.neg x) ≡ 𝓡.zero
+  zeros x e = ap (λ y. 𝓡.add 𝓡.zero (𝓡.neg y)) e ∙ ring 𝓡 [] (search reading depth 30) refl
+
+module _ {E : Type 0} (o : RingOps E) (l : RingLaws o) (cmp : List ℕ → List ℕ → Ordering) (v : ℕ) (order : OrdersMonomials cmp v) where
+  abbrev below : Monomial → Monomial → Type 0
+  below = (all_monomials cmp v order).below
+
+  -- cancelling steps do not raise the greatest monomial
+  pub steps-bounded : (hs : List (Polynomial E)) → AllFirst o l v hs → (f : Polynomial E) → InFirst o l v f → (m : Monomial) → ((n : Monomial) → below m n → (polynomials o l).coefficient (class (poly_ops o) f) n ≡ (class_ring o l).zero)
+      → (steps : List (Step E)) (left : Polynomial E) → Steps o cmp hs f steps left → (n : Monomial) → below m n → (polynomials o l).coefficient (class (poly_ops o) left) n ≡ (class_ring o l).zero
+  steps-bounded hs first f r m above steps left (Steps.start left' s) n high = ap (λ x. (polynomials o l).coefficient x n) (class_sound (poly_ops o) (poly_laws o l) left f s) ∙ above n high
+  steps-bounded hs first f r m above steps left (Steps.next steps' before s left' h step) n high = changed (λ n high. steps-bounded hs first f r m above steps' before h n high)
+    where
+      changed : ((n : Monomial) → below m n → (polynomials o l).coefficient (class (poly_ops o) before) n ≡ (class_ring o l).zero) → (polynomials o l).coefficient (class (poly_ops o) left) n ≡ (class_ring o l).zero
+      changed again =
+          ap (λ x. (polynomials o l).coefficient x n) (step-class o l cmp step) ∙ (polynomials o l).coefficient_add _ _ _
+          ∙ ap₂ (class_ring o l).add (again n high) (coefficient-neg (polynomials o l) _ _) ∙ zeros (class_ring o l) _ nothing
+        where
+          lower : below (monomial step.cancelled) n
+          lower = go ((all_monomials cmp v order).total (monomial step.cancelled) m)
+            where
+              go : below (monomial step.cancelled) m ⊎ (monomial step.cancelled ≡ m) ⊎ below m (monomial step.cancelled) → below (monomial step.cancelled) n
+              go (inl k) = (all_monomials cmp v order).trans (monomial step.cancelled) m n k high
+              go (inr (inl e)) = subst (λ x. below x n) (sym e) high
+              go (inr (inr k)) = absurd (has-coefficient o l before step.cancelled step.next.has (again (monomial step.cancelled) k))
+
+          nothing : (polynomials o l).coefficient ((poly_ring o l).mul (term_at o l (class o s.multiplier.1) (monomial s.multiplier.0)) (class (poly_ops o) (get_or hs s.place []))) n ≡ (class_ring o l).zero
+          nothing = of-coefficient (polynomials o l) {Q = λ k. IsUpTo (all_monomials cmp v order) k (monomial step.cancelled)} n
+              (λ k u e. (all_monomials cmp v order).irreflexive n (subst (λ x. below x n) e (upto-below (all_monomials cmp v order) k (monomial step.cancelled) n u lower)))
+              (multiple-of o l cmp step v order first (steps-first o l cmp v order hs first f steps' before h r))
+
+  module _ (k : ℕ) (eliminates : Eliminates cmp k) where
+    -- where the leading monomial is free, each monomial is
+    pub free_lead : (f : Polynomial E) → IsFalse (is_zero o f) → IsTrue (is_free k (leading_monomial o cmp f)) → IsFreeOf o k f
+    free_lead f n q m has = eliminates m (leading_monomial o cmp f) ((leading_monomial-leads o l cmp order.laws f n).greatest m has) q
+
+    module _ (field : FieldLaws o) (fs hs : List (Polynomial E)) (first : AllFirst o l v hs) (nonzero : (h : Polynomial E) → Has h hs → IsFalse (is_zero o h)) (basis : IsListBasis o l v cmp order fs hs) (members : AreMembers o fs hs) where
+      abbrev free_lead_of : Polynomial E → Bool
+      free_lead_of h = is_free k (leading_monomial o cmp h)
+
+      abbrev ps : List (Polynomial E)
+      ps = free_part o cmp k hs
+
+      part_first : AllFirst o l v ps
+      part_first = first_from o l v ps (λ h m. let (p, inside, e) = place_of [] hs (filter-in free_lead_of hs m) in subst (InFirst o l v) e (first p))
+
+      part_members : AreMembers o fs ps
+      part_members = all_from (IsMember o fs) [] ps (λ p inside. all_has (IsMember o fs) hs members (filter-in free_lead_of hs (has_at [] ps p inside)))
+
+      -- the leading monomial of a free member is divided by that of a free element
+      part_reducible : (f : Polynomial E) → InFirst o l v f → IsFreeOf o k f → IsMember o fs f → IsFalse (is_zero o f) → IsTrue (is_reducible o cmp ps (leading_monomial o cmp f))
+      part_reducible f r free m n =
+          let ((p, z), d) = reducible_place o cmp hs (leading_monomial o cmp f) (divided_first o l v cmp order fs hs basis f r m n) in
+          let q : IsTrue (free_lead_of (get_or hs p [])) = divides-free k _ (leading_monomial o cmp f) (divisor-divides _ (leading_monomial o cmp f) d) (free (leading_monomial o cmp f) (leading_monomial-leads o l cmp order.laws f n).has) in
+          let (j, there, e) = place_of [] ps (has-filter free_lead_of (has_at [] hs p (place-inside o cmp hs (p, z))) q) in
+          place_reducible o cmp ps (leading_monomial o cmp f) (j, ap (is_zero o) e ∙ z) (subst (λ (h : Polynomial E). Divisor (monomial (leading_monomial o cmp h)) (monomial (leading_monomial o cmp f))) (sym e) d)
+
+      part_generates : (f : Polynomial E) → InFirst o l v f → IsFreeOf o k f → IsMember o fs f → (b : Bool) → is_zero o f ≡ b → IsMember o ps f
+      part_generates f r free m true z = member_zero o l ps f z
+      part_generates f r free m false n = divided (division_exists o l field cmp v order ps part_first f r)
+        where
+          divided : (steps : List (Step E)) × (rest : Polynomial E) × IsDivision o cmp ps f steps rest → IsMember o ps f
+          divided (steps, rest, d) = zero-member o l cmp ps ps f rest (division-normal_form o l cmp ps ps (own_members o l ps) f steps rest d) (none (is_zero o rest) refl)
+            where
+              rest_first : InFirst o l v rest
+              rest_first = steps-first o l cmp v order ps part_first f steps rest d.by_steps r
+
+              rest_member : IsMember o fs rest
+              rest_member = member-same o l fs (difference o f (difference o f rest)) rest
+                  (class_exact (poly_ops o) (poly_laws o l) _ _ (class-difference o l f _ ∙ ap (λ x. (poly_ring o l).add (class (poly_ops o) f) ((poly_ring o l).neg x)) (class-difference o l f rest) ∙ twice (poly_ring o l) _ _))
+                  (member-subtract o l fs f _ m (steps-congruent o l cmp fs ps part_members f steps rest d.by_steps))
+
+              rest_free : IsFreeOf o k rest
+              rest_free e has = eliminates e (leading_monomial o cmp f) (not_less cmp order.laws.total (leading_monomial o cmp f) e (λ low. has-coefficient o l rest e has
+                  (steps-bounded ps part_first f r (monomial (leading_monomial o cmp f)) (class_leads o l v cmp order f r n).above steps rest d.by_steps (monomial e)
+                    (less_below cmp v order (leading_monomial o cmp f) e (has_front o l v f r (leading_monomial o cmp f) (leading_monomial-leads o l cmp order.laws f n).has) (has_front o l v rest rest_first e has) low))))
+                  (free (leading_monomial o cmp f) (leading_monomial-leads o l cmp order.laws f n).has)
+
+              none : (b : Bool) → is_zero o rest ≡ b → is_zero o rest ≡ true
+              none true z = z
+              none false z = absurd (true≢false (sym (part_reducible rest rest_first rest_free rest_member z) ∙ d.irreducible (leading_monomial o cmp rest) (leading_monomial-leads o l cmp order.laws rest z).has))
+
+      -- the part of a Gröbner basis that is free is one of the free polynomials of the ideal
+      pub part_basis : IsEliminationBasis o cmp v k fs ps
+      part_basis = record {
+        free = all_from (IsFreeOf o k) [] ps (λ p inside. let m = has_at [] ps p inside in free_lead (get_or ps p []) (nonzero (get_or ps p []) (filter-in free_lead_of hs m)) (filter-passes free_lead_of hs m));
+        members = part_members;
+        generate = λ f h free m. part_generates f (in_variables-of o l v f h) free m (is_zero o f) refl;
+        divided = λ f h free m n. part_reducible f (in_variables-of o l v f h) free m n;
+      }
