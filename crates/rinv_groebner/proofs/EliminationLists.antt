@@ -10,6 +10,7 @@ use Rattle.std.specs.declared.cmp.Ordering.{Ordering}
 use Rattle.std.specs.declared.cmp.Ordering.TheVariants.{Less}
 use Rattle.std.proofs.lemmas.Bool.{cases_Bool, eqb-true}
 use Rattle.std.proofs.lemmas.Bool.Decides.{nat_tests}
+use Rattle.std.proofs.lemmas.List.{get_or_default}
 use Rattle.std.proofs.lemmas.List.Kept.{AllPairs-filter}
 use Rattle.std.proofs.Math.Seq.{take-nil}
 use Rattle.std.proofs.lemmas.List.Sums.{sum_by-cons}
@@ -18,7 +19,7 @@ use Rattle.rinv_algebra.specs.Monomial.{divides}
 use Rattle.rinv_algebra.specs.Polynomial.{Polynomial, poly_ops, has_monomial, is_zero, difference}
 use Rattle.rinv_algebra.specs.Normal.{is_in_variables}
 use Rattle.rinv_algebra.specs.Ideal.{IsMember}
-use Rattle.rinv_algebra.specs.Leading.{leading_monomial}
+use Rattle.rinv_algebra.specs.Leading.{leading_monomial, leading_coefficient}
 use Rattle.rinv_theory.proofs.CRing.{CRing}
 use Rattle.rinv_theory.proofs.Solver.{ring, reading}
 use Rattle.rinv_theory.proofs.Classes.{class, class_ring, class_sound, class_exact}
@@ -42,11 +43,11 @@ use Rattle.rinv_groebner.proofs.IdealBases.{all_from, all_has, IsListBasis, list
 use Rattle.rinv_groebner.proofs.Kept.{split, place_of}
 use Rattle.rinv_groebner.proofs.LeadingMonomials.{leading_monomial-leads}
 use Rattle.rinv_groebner.proofs.ListElements.{Place, AllFirst}
-use Rattle.rinv_groebner.proofs.MadeAt.{first_from, twice}
+use Rattle.rinv_groebner.proofs.MadeAt.{first_from}
 use Rattle.rinv_groebner.proofs.MemberLists.{member-same, member_zero, member-subtract}
 use Rattle.rinv_groebner.proofs.MonomialLists.{Divisor, divisor-divides}
 use Rattle.rinv_groebner.proofs.NextSteps.{division_exists}
-use Rattle.rinv_groebner.proofs.NormalForms.{steps-congruent, division-normal_form, zero-member}
+use Rattle.rinv_groebner.proofs.NormalForms.{steps-member, division-normal_form, zero-member}
 use Rattle.rinv_groebner.proofs.Reducible.{reducible_place, place_reducible, place-inside}
 use Rattle.rinv_groebner.proofs.StepClasses.{class-difference, step-class, multiple-of}
 
@@ -147,9 +148,7 @@ module _ {E : Type 0} (o : RingOps E) (l : RingLaws o) (cmp : List ℕ → List 
               rest_first = steps-first o l cmp v order ps part_first f steps rest d.by_steps r
 
               rest_member : IsMember o fs rest
-              rest_member = member-same o l fs (difference o f (difference o f rest)) rest
-                  (class_exact (poly_ops o) (poly_laws o l) _ _ (class-difference o l f _ ∙ ap (λ x. (poly_ring o l).add (class (poly_ops o) f) ((poly_ring o l).neg x)) (class-difference o l f rest) ∙ twice (poly_ring o l) _ _))
-                  (member-subtract o l fs f _ m (steps-congruent o l cmp fs ps part_members f steps rest d.by_steps))
+              rest_member = steps-member o l cmp fs ps part_members f m steps rest d.by_steps
 
               rest_free : IsFreeOf o k rest
               rest_free e has = eliminates e (leading_monomial o cmp f) (not_less cmp order.laws.total (leading_monomial o cmp f) e (λ low. has-coefficient o l rest e has
@@ -169,3 +168,41 @@ module _ {E : Type 0} (o : RingOps E) (l : RingLaws o) (cmp : List ℕ → List 
         generate = λ f h free m. part_generates f (in_variables-of o l v f h) free m (is_zero o f) refl;
         divided = λ f h free m n. part_reducible f (in_variables-of o l v f h) free m n;
       }
+
+-- ---- what a reduced basis has, its part has
+
+-- of each pair of places the elements stand in a relation
+pairs_at : {X : Type 0} (R : X → X → Type 0) (d : X) (xs : List X) → ((g h : X) → R g h → R h g) → AllPairs R xs → (i j : ℕ) → i < length xs → j < length xs → (i ≡ j → ⊥) → R (get_or xs i d) (get_or xs j d)
+pairs_at R d xs turn all i j ii jj differ = elim (cases_Bool (nat_lt i j)) [
+  | inl low ↦ all i j d (grind (arith, nat_tests, low)) jj
+  | inr high ↦ turn (get_or xs j d) (get_or xs i d) (all j i d (above i j differ high) ii)
+]
+  where
+    above : (i j : ℕ) → (i ≡ j → ⊥) → nat_lt i j ≡ false → j < i
+    above i j differ high = elim (cases_Bool (i == j)) [
+      | inl e ↦ absurd (differ (eqb-true i j e))
+      | inr e ↦ grind (arith, nat_tests, high, e)
+    ]
+
+module _ {E : Type 0} (o : RingOps E) (cmp : List ℕ → List ℕ → Ordering) (k : ℕ) (hs : List (Polynomial E)) where
+  abbrev Apart : Polynomial E → Polynomial E → Type 0
+  Apart g h = (m : List ℕ) → (IsTrue (has_monomial o g m) → IsFalse (lead_divides o cmp h m)) × (IsTrue (has_monomial o h m) → IsFalse (lead_divides o cmp g m))
+
+  -- monic elements
+  pub part-monic : AreMonic o cmp hs → AreMonic o cmp (free_part o cmp k hs)
+  part-monic monic p inside =
+      let (j, there, e) = place_of [] hs (filter-in (λ h. is_free k (leading_monomial o cmp h)) hs (has_at [] (free_part o cmp k hs) p inside)) in
+      subst (λ (h : Polynomial E). IsSame o (leading_coefficient o cmp h) o.one) e (monic j there)
+
+  -- elements that are apart
+  pub part-apart : AreApart o cmp hs → AreApart o cmp (free_part o cmp k hs)
+  part-apart apart i j ii jj differ m has = (pairs_at Apart [] (free_part o cmp k hs) (λ g h r m. ((r m).1, (r m).0)) (AllPairs-filter Apart (λ h. is_free k (leading_monomial o cmp h)) hs whole) i j ii jj differ m).0 has
+    where
+      whole : AllPairs Apart hs
+      whole i j d below inside = subst (λ (g : Polynomial E). Apart g (get_or hs j d)) (get_or_default hs i [] d (omega (arith, below, inside))) (subst (Apart (get_or hs i [])) (get_or_default hs j [] d inside) (λ m. (
+        apart i j (omega (arith, below, inside)) inside (λ e. omega (arith, below, e)) m, apart j i inside (omega (arith, below, inside)) (λ e. omega (arith, below, e)) m,
+      )))
+
+  -- elements that ascend
+  pub part-ascends : Ascend o cmp hs → Ascend o cmp (free_part o cmp k hs)
+  part-ascends a = AllPairs-filter (λ f g. cmp (leading_monomial o cmp f) (leading_monomial o cmp g) ≡ Less) (λ h. is_free k (leading_monomial o cmp h)) hs a

@@ -33,7 +33,7 @@ use Rattle.rinv_groebner.proofs.Kept.{none_passes}
 use Rattle.rinv_groebner.proofs.ListElements.{AllFirst}
 use Rattle.rinv_groebner.proofs.MemberLists.{member-same, member-subtract, member-term}
 use Rattle.rinv_groebner.proofs.MonomialLists.{Divisor, divides-divisor}
-use Rattle.rinv_groebner.proofs.NormalForms.{steps-congruent, class-scale}
+use Rattle.rinv_groebner.proofs.NormalForms.{steps-member, class-scale}
 use Rattle.rinv_groebner.proofs.Reducible.{divides-parts}
 use Rattle.rinv_groebner.proofs.Rests.{coefficient-constant}
 use Rattle.rinv_groebner.proofs.StepClasses.{class-difference, step-class, multiple-of}
@@ -75,9 +75,6 @@ module _ {E : Type 0} (o : RingOps E) (l : RingLaws o) (v : ℕ) where
 module _ {R : Type 0} (𝓡 : CRing R) where
   without_zero : (x : R) → 𝓡.add x (𝓡.neg 𝓡.zero) ≡ x
   without_zero x = ring 𝓡 (x ∷ []) (search reading depth 30) refl
-
-  pub twice : (x y : R) → 𝓡.add x (𝓡.neg (𝓡.add x (𝓡.neg y))) ≡ y
-  twice x y = ring 𝓡 (x ∷ y ∷ []) (search reading depth 30) refl
 
 module _ {E : Type 0} (o : RingOps E) (l : RingLaws o) (cmp : List ℕ → List ℕ → Ordering) (v : ℕ) (order : OrdersMonomials cmp v) where
   abbrev below : Monomial → Monomial → Type 0
@@ -176,9 +173,7 @@ module _ {E : Type 0} (o : RingOps E) (l : RingLaws o) (cmp : List ℕ → List 
         rest_lead = lead-unique (polynomials o l) (all_monomials cmp v order) (class_leads o l v cmp order made.rest rest_first (leads-nonzero o l (all_monomials cmp v order) made.rest m rest_leads)) rest_leads
 
         rest_member : IsMember o fs made.rest
-        rest_member = member-same o l fs (difference o f (difference o f made.rest)) made.rest
-            (class_exact (poly_ops o) (poly_laws o l) _ _ (class-difference o l f _ ∙ ap (λ x. (poly_ring o l).add (class (poly_ops o) f) ((poly_ring o l).neg x)) (class-difference o l f made.rest) ∙ twice (poly_ring o l) _ _))
-            (member-subtract o l fs f _ (all_has (IsMember o fs) ks members (has_at [] ks k inside)) (steps-congruent o l cmp fs others (all_from (IsMember o fs) [] others (λ p low. all_has (IsMember o fs) ks members (has-remove ks k (has_at [] others p low)))) f made.steps made.rest made.division.by_steps))
+        rest_member = steps-member o l cmp fs others (all_from (IsMember o fs) [] others (λ p low. all_has (IsMember o fs) ks members (has-remove ks k (has_at [] others p low)))) f (all_has (IsMember o fs) ks members (has_at [] ks k inside)) made.steps made.rest made.division.by_steps
 
         g-class : class (poly_ops o) g ≡ (poly_ring o l).mul ((polynomials o l).term (class o c) monomials.one) (class (poly_ops o) made.rest)
         g-class = class_sound (poly_ops o) (poly_laws o l) g _ made.monic.scaled ∙ class-scale o l cmp c made.rest

@@ -50,6 +50,9 @@ module _ {R : Type 0} (𝓡 : CRing R) where
   taken : (f b x : R) → f + - b + x ≡ f + - (b + - x)
   taken f b x = ring 𝓡 (f ∷ b ∷ x ∷ []) (search reading depth 30) refl
 
+  twice : (x y : R) → x + - (x + - y) ≡ y
+  twice x y = ring 𝓡 (x ∷ y ∷ []) (search reading depth 30) refl
+
   restored : (f r : R) → f + - r + r ≡ f
   restored f r = ring 𝓡 (f ∷ r ∷ []) (search reading depth 30) refl
 
@@ -118,6 +121,12 @@ module _ {E : Type 0} (o : RingOps E) (l : RingLaws o) (cmp : List ℕ → List 
     where
       multiple : Polynomial E
       multiple = term_product o s.multiplier (get_or hs s.place [])
+
+  -- what is left of a member is one
+  pub steps-member : (fs hs : List (Polynomial E)) → AreMembers o fs hs → (f : Polynomial E) → IsMember o fs f → (steps : List (Step E)) (left : Polynomial E) → Steps o cmp hs f steps left → IsMember o fs left
+  steps-member fs hs members f m steps left h = member-same o l fs (difference o f (difference o f left)) left
+      (class_exact (poly_ops o) (poly_laws o l) _ _ (class-difference o l f _ ∙ ap (λ x. (poly_ring o l).add (class (poly_ops o) f) ((poly_ring o l).neg x)) (class-difference o l f left) ∙ twice (poly_ring o l) _ _))
+      (member-subtract o l fs f _ m (steps-congruent fs hs members f steps left h))
 
   -- what a division leaves is a normal form
   pub division-normal_form : (fs hs : List (Polynomial E)) → AreMembers o fs hs → (f : Polynomial E) (steps : List (Step E)) (rest : Polynomial E) → IsDivision o cmp hs f steps rest → IsNormalForm o cmp fs hs f rest
