@@ -41,3 +41,7 @@ pub mod MadeAt
 pub mod MadeLists
 pub mod BlockElimination
 pub mod EliminationLists
+pub mod SettledLists
+pub mod DivisionLaws
+pub mod Falls
+pub mod Ascents
