@@ -43,7 +43,7 @@ use Rattle.rinv_groebner.proofs.IdealBases.{all_from, all_has, IsListBasis, list
 use Rattle.rinv_groebner.proofs.Kept.{split, place_of}
 use Rattle.rinv_groebner.proofs.LeadingMonomials.{leading_monomial-leads}
 use Rattle.rinv_groebner.proofs.ListElements.{Place, AllFirst}
-use Rattle.rinv_groebner.proofs.MadeAt.{first_from}
+use Rattle.rinv_groebner.proofs.Removed.{first_from}
 use Rattle.rinv_groebner.proofs.MemberLists.{member-same, member_zero, member-subtract}
 use Rattle.rinv_groebner.proofs.MonomialLists.{Divisor, divisor-divides}
 use Rattle.rinv_groebner.proofs.NextSteps.{division_exists}
@@ -153,7 +153,7 @@ module _ {E : Type 0} (o : RingOps E) (l : RingLaws o) (cmp : List ℕ → List 
               rest_free : IsFreeOf o k rest
               rest_free e has = eliminates e (leading_monomial o cmp f) (not_less cmp order.laws.total (leading_monomial o cmp f) e (λ low. has-coefficient o l rest e has
                   (steps-bounded ps part_first f r (monomial (leading_monomial o cmp f)) (class_leads o l v cmp order f r n).above steps rest d.by_steps (monomial e)
-                    (less_below cmp v order (leading_monomial o cmp f) e (has_front o l v f r (leading_monomial o cmp f) (leading_monomial-leads o l cmp order.laws f n).has) (has_front o l v rest rest_first e has) low))))
+                  (less_below cmp v order (leading_monomial o cmp f) e (has_front o l v f r (leading_monomial o cmp f) (leading_monomial-leads o l cmp order.laws f n).has) (has_front o l v rest rest_first e has) low))))
                   (free (leading_monomial o cmp f) (leading_monomial-leads o l cmp order.laws f n).has)
 
               none : (b : Bool) → is_zero o rest ≡ b → is_zero o rest ≡ true
@@ -200,7 +200,8 @@ module _ {E : Type 0} (o : RingOps E) (cmp : List ℕ → List ℕ → Ordering)
     where
       whole : AllPairs Apart hs
       whole i j d below inside = subst (λ (g : Polynomial E). Apart g (get_or hs j d)) (get_or_default hs i [] d (omega (arith, below, inside))) (subst (Apart (get_or hs i [])) (get_or_default hs j [] d inside) (λ m. (
-        apart i j (omega (arith, below, inside)) inside (λ e. omega (arith, below, e)) m, apart j i inside (omega (arith, below, inside)) (λ e. omega (arith, below, e)) m,
+        apart i j (omega (arith, below, inside)) inside (λ e. omega (arith, below, e)) m,
+        apart j i inside (omega (arith, below, inside)) (λ e. omega (arith, below, e)) m,
       )))
 
   -- elements that ascend

@@ -37,6 +37,8 @@ pub mod StepMultiples
 pub mod GoodPairs
 pub mod PairsOfLists
 pub mod MembersOfLists
+pub mod Removed
+pub mod Remainders
 pub mod MadeAt
 pub mod MadeLists
 pub mod BlockElimination

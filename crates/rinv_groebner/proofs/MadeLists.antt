@@ -22,7 +22,9 @@ use Rattle.rinv_groebner.proofs.IdealBases.{all_from, all_has, AreDivided}
 use Rattle.rinv_groebner.proofs.Kept.{place_of, kept-in}
 use Rattle.rinv_groebner.proofs.KeptDivisors.{kept_divides, kept-apart}
 use Rattle.rinv_groebner.proofs.ListElements.{AllFirst}
-use Rattle.rinv_groebner.proofs.MadeAt.{first_from, IsFrom, made_from}
+use Rattle.rinv_groebner.proofs.MadeAt.{IsFrom, made_from, made_exists}
+use Rattle.rinv_groebner.proofs.Remainders.{AreSpread, remainder}
+use Rattle.rinv_groebner.proofs.Removed.{first_from}
 use Rattle.rinv_groebner.proofs.MonomialLists.{Divisor, divides-divisor, divisor-divides, divisor_trans}
 use Rattle.rinv_groebner.proofs.ReducedLists.{members_trans}
 use Rattle.rinv_groebner.proofs.Reducible.{divides-parts, parts_divide, place-inside, place_reducible, reducible_place}
@@ -47,11 +49,13 @@ module _ {E : Type 0} (o : RingOps E) (l : RingLaws o) (field : FieldLaws o) (cm
   kept_nonzero : (h : Polynomial E) → Has h ks → IsFalse (is_zero o h)
   kept_nonzero h m = nonzero h (in_list m)
 
-  abbrev From : ℕ → Polynomial E → Type 0
-  From = IsFrom o l cmp v order field fs ks kept_first kept_members kept_nonzero (kept-apart o cmp hs)
+  kept_spread : AreSpread o l cmp v order ks
+  kept_spread = record { in_first = kept_first; nonzero = kept_nonzero; apart = kept-apart o cmp hs }
 
-  from : (k : ℕ) → k < length gs → From k (get_or gs k [])
-  from k inside = made_from o l cmp v order field fs ks kept_first kept_members kept_nonzero (kept-apart o cmp hs) k (subst (λ (n : ℕ). k < n) made.number inside) (get_or gs k []) (made.made k inside)
+  from : (k : ℕ) → k < length gs → IsFrom o l field cmp v order fs ks k (get_or gs k [])
+  from k inside =
+      let m = made.made k inside in
+      made_from o l field cmp v order fs ks k (get_or gs k []) m (remainder o l cmp v order fs ks kept_spread kept_members k (subst (λ (n : ℕ). k < n) made.number inside) m.steps m.rest m.division)
 
   made_first : AllFirst o l v gs
   made_first = first_from o l v gs (λ g m. let (k, inside, e) = place_of [] gs m in subst (InFirst o l v) e (from k inside).in_first)
