@@ -1,8 +1,8 @@
 -- Two lists in ascending order with the same elements are equal.
---   Has x xs             x is in the list
+--   Has x xs, split      x is in the list; it is the first element, or a later one
 --   Ascends Less xs      each element is less than those after it
 --   ascending-equal      where each element of the one is in the other, and the other way round, they are equal
-use Rattle.std.proofs.Common.{◌≡◌, List, [], ◌∷◌, refl, sym, ap₂, subst}
+use Rattle.std.proofs.Common.{◌≡◌, ◌⊎◌, List, [], ◌∷◌, refl, sym, ap₂, subst, inl, inr}
 use mathlib.Core.Logic.{∥∥₁_elim, ∥∥₁_map}
 use mathlib.Core.List as MList
 
@@ -10,6 +10,11 @@ use mathlib.Core.List as MList
 pub data Has {A : Type 0} (x : A) : List A → Type 0 where
   first : {xs : List A} → Has x (x ∷ xs)
   later : {y : A} {xs : List A} → Has x xs → Has x (y ∷ xs)
+
+-- it is the first element, or a later one
+pub split : {A : Type 0} {x y : A} {xs : List A} → Has y (x ∷ xs) → (y ≡ x) ⊎ Has y xs
+split first = inl refl
+split (later h) = inr h
 
 module _ {A : Type 0} (Less : A → A → Type 0) where
   -- x is less than each element

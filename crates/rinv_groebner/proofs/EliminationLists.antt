@@ -35,12 +35,12 @@ use Rattle.rinv_groebner.specs.Division.{Step, Steps, IsDivision, is_reducible, 
 use Rattle.rinv_groebner.specs.Basis.{IsGroebnerBasis, AreMembers}
 use Rattle.rinv_groebner.specs.Elimination.{is_free, Eliminates, IsFreeOf, free_part, IsEliminationBasis}
 use Rattle.rinv_groebner.specs.Reduced.{AreMonic, AreApart, Ascend}
-use Rattle.rinv_groebner.proofs.Ascending.{Has}
+use Rattle.rinv_groebner.proofs.Ascending.{Has, split}
 use Rattle.rinv_groebner.proofs.Compared.{all_monomials, InFirst, class_leads, has_front, has-coefficient, less_below}
 use Rattle.rinv_groebner.proofs.Generates.{has_at, own_members, steps-first}
 use Rattle.rinv_groebner.proofs.Greatest.{has-filter, filter-passes, not_less}
 use Rattle.rinv_groebner.proofs.IdealBases.{all_from, all_has, IsListBasis, list_basis, divided_first}
-use Rattle.rinv_groebner.proofs.Kept.{split, place_of}
+use Rattle.rinv_groebner.proofs.Kept.{place_of}
 use Rattle.rinv_groebner.proofs.LeadingMonomials.{leading_monomial-leads}
 use Rattle.rinv_groebner.proofs.ListElements.{Place, AllFirst}
 use Rattle.rinv_groebner.proofs.Removed.{first_from}

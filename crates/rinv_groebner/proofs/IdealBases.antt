@@ -3,9 +3,9 @@
 --   in_ideal, in_ideal-subtract, in_ideal-constant    members; differences; products with a constant
 --   represented          a formal sum in v variables that is a member stands for it
 --   IsListBasis, list_basis    the elements of a Gröbner basis that are not zero are a basis of this ideal
-use Rattle.std.proofs.Common.{◌≡◌, ℕ, zero, suc, ◌<◌, Bool, true, false, List, [], ◌∷◌, length, get_or, refl, sym, ◌∙◌, ap, subst, arith, IsTrue}
+use Rattle.std.proofs.Common.{◌≡◌, ◌⊎◌, ℕ, zero, suc, ◌<◌, Bool, true, false, not, List, [], ◌∷◌, length, get_or, refl, sym, ◌∙◌, ap, subst, inl, inr, arith, IsTrue, true≢false}
 use Rattle.std.specs.Prelude.{IsFalse}
-use Rattle.std.specs.List.{AllByRecursion}
+use Rattle.std.specs.List.{list_all, AllByRecursion}
 use Rattle.std.specs.declared.cmp.Ordering.{Ordering}
 use mathlib.Core.Bool.{Bool-set}
 use mathlib.Core.Logic.{∥∥₁_elim, ∥∥₁_prop, ∥∥₁_map}
@@ -14,6 +14,7 @@ use Rattle.rinv_algebra.specs.Polynomial.{Polynomial, poly_ops, is_zero, differe
 use Rattle.rinv_algebra.specs.Normal.{is_in_variables}
 use Rattle.rinv_algebra.specs.Ideal.{IsMember}
 use Rattle.rinv_algebra.specs.Leading.{leading_monomial}
+use Rattle.rinv_algebra.proofs.Same.{both}
 use Rattle.rinv_algebra.proofs.PolynomialLaws.{poly_laws}
 use Rattle.rinv_theory.proofs.CRing.{CRing}
 use Rattle.rinv_theory.proofs.Solver.{ring, reading}
@@ -28,8 +29,8 @@ use Rattle.rinv_theory.proofs.Variables.{IsFront, in_variables-of, of-in_variabl
 use Rattle.rinv_theory.proofs.Leads.{MonomialOrder, Leads, lead-unique}
 use Rattle.rinv_groebner.specs.Orders.{OrdersMonomials}
 use Rattle.rinv_groebner.specs.Division.{is_reducible}
-use Rattle.rinv_groebner.specs.Basis.{AreMembers}
-use Rattle.rinv_groebner.proofs.Ascending.{Has}
+use Rattle.rinv_groebner.specs.Basis.{AreMembers, AreNonzero}
+use Rattle.rinv_groebner.proofs.Ascending.{Has, split}
 use Rattle.rinv_groebner.proofs.Bases.{IsBasis}
 use Rattle.rinv_groebner.proofs.Compared.{all_monomials, InFirst, class_leads}
 use Rattle.rinv_groebner.proofs.ListElements.{Place, AllFirst, list-leads}
@@ -52,6 +53,17 @@ pub all_has : {X : Type 0} (P : X → Type 0) {x : X} (xs : List X) → AllByRec
 all_has P [] all h = elim h [ ]
 all_has P (x ∷ xs) all Has.first = all.0
 all_has P (x ∷ xs) all (Has.later h) = all_has P xs all.1 h
+
+-- in a list without zero no element is zero
+pub nonzero_has : {E : Type 0} (o : RingOps E) (hs : List (Polynomial E)) → AreNonzero o hs → (h : Polynomial E) → Has h hs → IsFalse (is_zero o h)
+nonzero_has o [] n h m = elim m [ ]
+nonzero_has o (x ∷ hs) n h m =
+    let parts : (not (is_zero o x) ≡ true) × IsTrue (list_all (λ h. not (is_zero o h)) hs) = both (not (is_zero o x)) _ n in
+    elim (split m) [ inl e ↦ ap (is_zero o) e ∙ off (is_zero o x) parts.0 | inr k ↦ nonzero_has o hs parts.1 h k ]
+  where
+    off : (b : Bool) → not b ≡ true → b ≡ false
+    off false e = refl
+    off true e = absurd (true≢false (sym e))
 
 -- a sum whose class has a greatest monomial is not zero
 pub leads-nonzero : {E : Type 0} (o : RingOps E) (l : RingLaws o) (𝓞 : MonomialOrder monomials) (f : Polynomial E) (n : Monomial) → Leads (polynomials o l) 𝓞 (class (poly_ops o) f) n → IsFalse (is_zero o f)

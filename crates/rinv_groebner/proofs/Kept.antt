@@ -20,7 +20,7 @@ use Rattle.rinv_theory.proofs.ListOrders.{order_of}
 use Rattle.rinv_theory.proofs.LastVariable.{later, later-nil, later_order, later_well_founded}
 use Rattle.rinv_theory.proofs.WellOrders.{order_of_well}
 use Rattle.rinv_groebner.specs.Reduced.{same_lead, properly_divides, is_kept, kept_after, kept}
-use Rattle.rinv_groebner.proofs.Ascending.{Has}
+use Rattle.rinv_groebner.proofs.Ascending.{Has, split}
 use Rattle.rinv_groebner.proofs.Generates.{has_at}
 use Rattle.rinv_groebner.proofs.Minimal.{Found, kept_divisor}
 use Rattle.rinv_groebner.proofs.MonomialLists.{Divisor, divides-divisor}
@@ -51,11 +51,6 @@ none_before test (x ∷ xs) ys e =
     let first : test x ≡ false = grind (arith, nat_tests, e) in
     let again = none_before test xs ys rest in
     grind (arith, nat_tests, first, again)
-
--- the first element, or a later one
-pub split : {X : Type 0} {x y : X} {xs : List X} → Has y (x ∷ xs) → (y ≡ x) ⊎ Has y xs
-split Has.first = inl refl
-split (Has.later h) = inr h
 
 module _ {E : Type 0} (o : RingOps E) (cmp : List ℕ → List ℕ → Ordering) (all : List (Polynomial E)) where
   -- a kept element is one of the list
