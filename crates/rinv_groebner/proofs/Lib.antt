@@ -47,3 +47,8 @@ pub mod SettledLists
 pub mod DivisionLaws
 pub mod Falls
 pub mod Ascents
+pub mod JournalGood
+pub mod JournalPairs
+pub mod JournalFacts
+pub mod JournalBasis
+pub mod JournalUnique

@@ -53,7 +53,8 @@ module _ {E : Type 0} (o : RingOps E) (l : RingLaws o) (v : ℕ) where
   abbrev pub AllFirst : List (Polynomial E) → Type 0
   AllFirst hs = (k : ℕ) → InFirst o l v (get_or hs k [])
 
-  nil_first : InFirst o l v []
+  -- zero is one
+  pub nil_first : InFirst o l v []
   nil_first = in_variables-of o l v [] refl
 
   -- which is so where they are written in these

@@ -74,7 +74,8 @@ module _ {E : Type 0} (o : RingOps E) (l : RingLaws o) where
         whole : poly o l (get_or fs k []) ≡ (poly_ring o l).add ((poly_ring o l).mul (poly o l (poly_ops o).one) (generator o l fs k)) (poly o l [])
         whole = sym (ap₂ (λ x y. (poly_ring o l).add ((poly_ring o l).mul x (generator o l fs k)) y) (class-one (poly_ops o) (poly_laws o l)) (class-zero (poly_ops o) (poly_laws o l)) ∙ add_zero (poly_ring o l) _ ∙ (poly_ring o l).one_mul _)
 
-    combination_member : (us gs : List (Polynomial E)) → ((k : ℕ) → IsMember o fs (get_or gs k [])) → IsMember o fs (combination o us gs)
+    -- a combination of members
+    pub combination_member : (us gs : List (Polynomial E)) → ((k : ℕ) → IsMember o fs (get_or gs k [])) → IsMember o fs (combination o us gs)
     unfolding combination
     combination_member [] gs all = member_none o l fs [] (class-zero (poly_ops o) (poly_laws o l))
     combination_member (u ∷ us) [] all = member_none o l fs [] (class-zero (poly_ops o) (poly_laws o l))

@@ -45,7 +45,8 @@ first_passing test d (x ∷ xs) h = elim (cases_Bool (test x)) [
     earlier f before zero l = f
     earlier f before (suc j) l = before j (omega arith)
 
-past_end : {X : Type 0} (xs : List X) (k : ℕ) (d : X) → (k < length xs) ⊎ (get_or xs k d ≡ d)
+-- a place is inside the list, or reads the default
+pub past_end : {X : Type 0} (xs : List X) (k : ℕ) (d : X) → (k < length xs) ⊎ (get_or xs k d ≡ d)
 past_end [] zero d = inr refl
 past_end [] (suc k) d = inr refl
 past_end (x ∷ xs) zero d = inl (omega arith)
