@@ -1,6 +1,5 @@
 -- Elimination, for lists of polynomials.
 --   free_lead            where the leading monomial is free of the first variables, each monomial is
---   steps-bounded        cancelling steps do not raise the leading monomial
 --   part_basis           the part of a Gröbner basis that is free is one of the free polynomials of the ideal
 --   part-monic, part-apart, part-ascends    what a reduced basis has, its part has
 use Rattle.std.proofs.Common.{◌≡◌, ◌⊎◌, ℕ, zero, suc, ◌≤◌, ◌<◌, Bool, true, false, not, cond, List, [], ◌∷◌, length, take, sum, get_or, filter, refl, sym, ◌∙◌, ap, ap₂, subst, inl, inr, arith, IsTrue, true≢false}
@@ -35,12 +34,12 @@ use Rattle.rinv_groebner.specs.Division.{Step, Steps, IsDivision, is_reducible, 
 use Rattle.rinv_groebner.specs.Basis.{IsGroebnerBasis, AreMembers}
 use Rattle.rinv_groebner.specs.Elimination.{is_free, Eliminates, IsFreeOf, free_part, IsEliminationBasis}
 use Rattle.rinv_groebner.specs.Reduced.{AreMonic, AreApart, Ascend}
-use Rattle.rinv_groebner.proofs.Ascending.{Has, split}
+use Rattle.rinv_groebner.proofs.Ascending.{Has, split, has_at, place_of}
 use Rattle.rinv_groebner.proofs.Compared.{all_monomials, InFirst, class_leads, has_front, has-coefficient, less_below}
-use Rattle.rinv_groebner.proofs.Generates.{has_at, own_members, steps-first}
+use Rattle.rinv_groebner.proofs.DivisionLaws.{left-bounded}
+use Rattle.rinv_groebner.proofs.Generates.{own_members, steps-first}
 use Rattle.rinv_groebner.proofs.Greatest.{has-filter, filter-passes, not_less}
 use Rattle.rinv_groebner.proofs.IdealBases.{all_from, all_has, IsListBasis, list_basis, divided_first}
-use Rattle.rinv_groebner.proofs.Kept.{place_of}
 use Rattle.rinv_groebner.proofs.LeadingMonomials.{leading_monomial-leads}
 use Rattle.rinv_groebner.proofs.ListElements.{Place, AllFirst}
 use Rattle.rinv_groebner.proofs.Removed.{first_from}
@@ -79,38 +78,7 @@ divides-degree (suc k) (x ∷ a) (y ∷ b) d =
 pub divides-free : (k : ℕ) (a b : List ℕ) → IsTrue (divides a b) → IsTrue (is_free k b) → IsTrue (is_free k a)
 divides-free k a b d z = let low = divides-degree k a b d in let e : sum (take k b) ≡ 0 = eqb-true _ _ z in ap (λ (n : ℕ). n == 0) {x = sum (take k a)} {y = 0} (omega (arith, low, e))
 
-module _ {R : Type 0} (𝓡 : CRing R) where
-  zeros : (x : R) → x ≡ 𝓡.zero → 𝓡.add 𝓡.zero (𝓡.neg x) ≡ 𝓡.zero
-  zeros x e = ap (λ y. 𝓡.add 𝓡.zero (𝓡.neg y)) e ∙ ring 𝓡 [] (search reading depth 30) refl
-
 module _ {E : Type 0} (o : RingOps E) (l : RingLaws o) (cmp : List ℕ → List ℕ → Ordering) (v : ℕ) (order : OrdersMonomials cmp v) where
-  abbrev below : Monomial → Monomial → Type 0
-  below = (all_monomials cmp v order).below
-
-  -- cancelling steps do not raise the greatest monomial
-  pub steps-bounded : (hs : List (Polynomial E)) → AllFirst o l v hs → (f : Polynomial E) → InFirst o l v f → (m : Monomial) → ((n : Monomial) → below m n → (polynomials o l).coefficient (class (poly_ops o) f) n ≡ (class_ring o l).zero)
-      → (steps : List (Step E)) (left : Polynomial E) → Steps o cmp hs f steps left → (n : Monomial) → below m n → (polynomials o l).coefficient (class (poly_ops o) left) n ≡ (class_ring o l).zero
-  steps-bounded hs first f r m above steps left (Steps.start left' s) n high = ap (λ x. (polynomials o l).coefficient x n) (class_sound (poly_ops o) (poly_laws o l) left f s) ∙ above n high
-  steps-bounded hs first f r m above steps left (Steps.next steps' before s left' h step) n high = changed (λ n high. steps-bounded hs first f r m above steps' before h n high)
-    where
-      changed : ((n : Monomial) → below m n → (polynomials o l).coefficient (class (poly_ops o) before) n ≡ (class_ring o l).zero) → (polynomials o l).coefficient (class (poly_ops o) left) n ≡ (class_ring o l).zero
-      changed again =
-          ap (λ x. (polynomials o l).coefficient x n) (step-class o l cmp step) ∙ (polynomials o l).coefficient_add _ _ _
-          ∙ ap₂ (class_ring o l).add (again n high) (coefficient-neg (polynomials o l) _ _) ∙ zeros (class_ring o l) _ nothing
-        where
-          lower : below (monomial step.cancelled) n
-          lower = go ((all_monomials cmp v order).total (monomial step.cancelled) m)
-            where
-              go : below (monomial step.cancelled) m ⊎ (monomial step.cancelled ≡ m) ⊎ below m (monomial step.cancelled) → below (monomial step.cancelled) n
-              go (inl k) = (all_monomials cmp v order).trans (monomial step.cancelled) m n k high
-              go (inr (inl e)) = subst (λ x. below x n) (sym e) high
-              go (inr (inr k)) = absurd (has-coefficient o l before step.cancelled step.next.has (again (monomial step.cancelled) k))
-
-          nothing : (polynomials o l).coefficient ((poly_ring o l).mul (term_at o l (class o s.multiplier.1) (monomial s.multiplier.0)) (class (poly_ops o) (get_or hs s.place []))) n ≡ (class_ring o l).zero
-          nothing = of-coefficient (polynomials o l) {Q = λ k. IsUpTo (all_monomials cmp v order) k (monomial step.cancelled)} n
-              (λ k u e. (all_monomials cmp v order).irreflexive n (subst (λ x. below x n) e (upto-below (all_monomials cmp v order) k (monomial step.cancelled) n u lower)))
-              (multiple-of o l cmp step v order first (steps-first o l cmp v order hs first f steps' before h r))
-
   module _ (k : ℕ) (eliminates : Eliminates cmp k) where
     -- where the leading monomial is free, each monomial is
     pub free_lead : (f : Polynomial E) → IsFalse (is_zero o f) → IsTrue (is_free k (leading_monomial o cmp f)) → IsFreeOf o k f
@@ -151,10 +119,7 @@ module _ {E : Type 0} (o : RingOps E) (l : RingLaws o) (cmp : List ℕ → List 
               rest_member = steps-member o l cmp fs ps part_members f m steps rest d.by_steps
 
               rest_free : IsFreeOf o k rest
-              rest_free e has = eliminates e (leading_monomial o cmp f) (not_less cmp order.laws.total (leading_monomial o cmp f) e (λ low. has-coefficient o l rest e has
-                  (steps-bounded ps part_first f r (monomial (leading_monomial o cmp f)) (class_leads o l v cmp order f r n).above steps rest d.by_steps (monomial e)
-                  (less_below cmp v order (leading_monomial o cmp f) e (has_front o l v f r (leading_monomial o cmp f) (leading_monomial-leads o l cmp order.laws f n).has) (has_front o l v rest rest_first e has) low))))
-                  (free (leading_monomial o cmp f) (leading_monomial-leads o l cmp order.laws f n).has)
+              rest_free e has = eliminates e (leading_monomial o cmp f) (left-bounded o l cmp ps v order part_first f r rest steps d.by_steps e has) (free (leading_monomial o cmp f) (leading_monomial-leads o l cmp order.laws f n).has)
 
               none : (b : Bool) → is_zero o rest ≡ b → is_zero o rest ≡ true
               none true z = z

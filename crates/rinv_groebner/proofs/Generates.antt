@@ -1,5 +1,5 @@
 -- A list generates the ideal in which it divides the leading monomials: each member has cofactors over the list, by division.
---   has_at, own_members  the elements of a list are members of its ideal
+--   own_members          the elements of a list are members of its ideal
 --   division-first       what a division leaves is a sum of terms in the same variables
 --   generates            each member, in v variables, is a member of the ideal of the list
 use Rattle.std.proofs.Common.{◌≡◌, ℕ, zero, suc, ◌<◌, List, [], ◌∷◌, length, get_or, arith}
@@ -11,7 +11,7 @@ use Rattle.rinv_algebra.proofs.PolynomialLaws.{poly_laws}
 use Rattle.rinv_groebner.specs.Orders.{OrdersMonomials}
 use Rattle.rinv_groebner.specs.Division.{Step, Steps, IsDivision}
 use Rattle.rinv_groebner.specs.Basis.{AreMembers}
-use Rattle.rinv_groebner.proofs.Ascending.{Has}
+use Rattle.rinv_groebner.proofs.Ascending.{has_at}
 use Rattle.rinv_groebner.proofs.Compared.{InFirst, first-same}
 use Rattle.rinv_groebner.proofs.IdealBases.{all_from, AreDivided, list_basis}
 use Rattle.rinv_groebner.proofs.ListElements.{AllFirst}
@@ -19,12 +19,6 @@ use Rattle.rinv_groebner.proofs.MemberLists.{member_one}
 use Rattle.rinv_groebner.proofs.NextSteps.{division_exists}
 use Rattle.rinv_groebner.proofs.NormalForms.{division-normal_form, normal_form-zero, zero-member}
 use Rattle.rinv_groebner.proofs.StepClasses.{step-first}
-
--- the element at a place of a list is in it
-pub has_at : {X : Type 0} (d : X) (xs : List X) (k : ℕ) → k < length xs → Has (get_or xs k d) xs
-has_at d [] k h = absurd (omega arith)
-has_at d (x ∷ xs) zero h = Has.first
-has_at d (x ∷ xs) (suc k) h = Has.later (has_at d xs k (omega (arith, h)))
 
 module _ {E : Type 0} (o : RingOps E) (l : RingLaws o) where
   -- the elements of a list are members of its ideal

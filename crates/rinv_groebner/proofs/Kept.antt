@@ -1,5 +1,5 @@
 -- The elements of a list that are kept.
---   place_of, none_passes    the place of an element of a list; where no element passes a test, none does
+--   none_passes          where no element passes a test, none does
 --   kept-in              a kept element is one of the list
 --   kept_or              what stands against an element that is not kept
 --   kept-minimal         no leading monomial of the list properly divides that of a kept element
@@ -20,19 +20,11 @@ use Rattle.rinv_theory.proofs.ListOrders.{order_of}
 use Rattle.rinv_theory.proofs.LastVariable.{later, later-nil, later_order, later_well_founded}
 use Rattle.rinv_theory.proofs.WellOrders.{order_of_well}
 use Rattle.rinv_groebner.specs.Reduced.{same_lead, properly_divides, is_kept, kept_after, kept}
-use Rattle.rinv_groebner.proofs.Ascending.{Has, split}
-use Rattle.rinv_groebner.proofs.Generates.{has_at}
-use Rattle.rinv_groebner.proofs.Minimal.{Found, kept_divisor}
+use Rattle.rinv_groebner.proofs.Ascending.{Has, split, has_at}
 use Rattle.rinv_groebner.proofs.MonomialLists.{Divisor, divides-divisor}
 use Rattle.rinv_groebner.proofs.Reducible.{first_passing}
 
 -- ---- lists
-
--- an element has a place
-pub place_of : {X : Type 0} (d : X) (xs : List X) {x : X} → Has x xs → (k : ℕ) × (k < length xs) × (get_or xs k d ≡ x)
-place_of d [] h = elim h [ ]
-place_of d (x ∷ xs) Has.first = (0, (omega arith), refl)
-place_of d (x ∷ xs) (Has.later h) = let (k, inside, e) = place_of d xs h in (suc k, (omega (arith, inside)), e)
 
 -- where no element passes a test, none does
 pub none_passes : {X : Type 0} (test : X → Bool) (xs : List X) {x : X} → Has x xs → list_any test xs ≡ false → test x ≡ false

@@ -20,9 +20,8 @@ use Rattle.rinv_theory.proofs.ListOrders.{order_of}
 use Rattle.rinv_theory.proofs.LastVariable.{later, later-nil, later_order, later_well_founded}
 use Rattle.rinv_theory.proofs.WellOrders.{IsWellOrder, order_of_well}
 use Rattle.rinv_groebner.specs.Reduced.{same_lead, properly_divides, kept}
-use Rattle.rinv_groebner.proofs.Ascending.{Has}
-use Rattle.rinv_groebner.proofs.Generates.{has_at}
-use Rattle.rinv_groebner.proofs.Kept.{place_of, none_passes, kept-in, kept_or, kept-minimal, kept-differ}
+use Rattle.rinv_groebner.proofs.Ascending.{Has, has_at, place_of}
+use Rattle.rinv_groebner.proofs.Kept.{none_passes, kept-in, kept_or, kept-minimal, kept-differ}
 use Rattle.rinv_groebner.proofs.Minimal.{Found, kept_divisor}
 use Rattle.rinv_groebner.proofs.MonomialLists.{Divisor, divides-divisor, divisor-divides}
 use Rattle.rinv_groebner.proofs.Reducible.{first_passing}

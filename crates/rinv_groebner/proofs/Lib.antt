@@ -10,9 +10,7 @@ pub mod MonomialLists
 pub mod Divisors
 pub mod Bases
 pub mod Minimal
-pub mod Rests
 pub mod Ascending
-pub mod Free
 pub mod Descent
 pub mod FirstVariables
 pub mod Greatest

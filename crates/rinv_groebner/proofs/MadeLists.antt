@@ -21,13 +21,13 @@ use Rattle.rinv_groebner.specs.Orders.{OrdersMonomials}
 use Rattle.rinv_groebner.specs.Division.{lead_divides, AreSame}
 use Rattle.rinv_groebner.specs.Basis.{IsGroebnerBasis, AreMembers, GenerateOneIdeal}
 use Rattle.rinv_groebner.specs.Reduced.{kept, IsMadeAt, AreMade, IsReducedGroebnerBasis}
-use Rattle.rinv_groebner.proofs.Ascending.{Has}
+use Rattle.rinv_groebner.proofs.Ascending.{Has, has_at, place_of}
 use Rattle.rinv_groebner.proofs.Bases.{equal-lead}
 use Rattle.rinv_groebner.proofs.Compared.{all_monomials, InFirst}
 use Rattle.rinv_groebner.proofs.FirstVariables.{order_in-well}
-use Rattle.rinv_groebner.proofs.Generates.{has_at, generates}
+use Rattle.rinv_groebner.proofs.Generates.{generates}
 use Rattle.rinv_groebner.proofs.IdealBases.{all_from, all_has, AreDivided, InIdeal, in_ideal-subtract}
-use Rattle.rinv_groebner.proofs.Kept.{place_of, kept-in}
+use Rattle.rinv_groebner.proofs.Kept.{kept-in}
 use Rattle.rinv_groebner.proofs.KeptDivisors.{kept_divides, kept-apart}
 use Rattle.rinv_groebner.proofs.ListElements.{AllFirst}
 use Rattle.rinv_groebner.proofs.MadeAt.{IsFrom, made_from, made_exists}

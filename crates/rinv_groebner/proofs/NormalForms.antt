@@ -1,4 +1,5 @@
 -- Normal forms modulo a Gröbner basis, of formal sums.
+--   coefficient-constant    the coefficients of a product with a constant
 --   irreducible-coefficient    an irreducible sum has no monomial that is a multiple of a leading monomial
 --   normal_form-unique   congruent sums have one normal form, whichever Gröbner bases are taken
 --   normal_form-add, normal_form-term    sums, and products with a constant
@@ -15,9 +16,9 @@ use Rattle.rinv_algebra.proofs.PolynomialLaws.{poly_laws}
 use Rattle.rinv_theory.proofs.CRing.{CRing, add_neg, mul_zero}
 use Rattle.rinv_theory.proofs.Solver.{ring, reading}
 use Rattle.rinv_theory.proofs.Classes.{class, class_ring, class_sound, class_exact, class_dec, class-add, class-zero}
-use Rattle.rinv_theory.proofs.Monoid.{Monomial, monomial, monomials, monomial_ind, monomial-mul, monomial-one}
+use Rattle.rinv_theory.proofs.Monoid.{Monoid, Monomial, monomial, monomials, monomial_ind, monomial-mul, monomial-one}
 use Rattle.rinv_theory.proofs.Polynomials.{polynomials, poly_ring}
-use Rattle.rinv_theory.proofs.TermRing.{coefficient-zero}
+use Rattle.rinv_theory.proofs.TermRing.{TermRing, coefficient-zero}
 use Rattle.rinv_theory.proofs.Variables.{in_variables-of}
 use Rattle.rinv_groebner.specs.Orders.{OrdersMonomials}
 use Rattle.rinv_groebner.specs.Division.{Step, is_reducible, IsIrreducible, Steps, IsDivision}
@@ -29,8 +30,11 @@ use Rattle.rinv_groebner.proofs.IdealBases.{all_at, in_ideal, first-difference, 
 use Rattle.rinv_groebner.proofs.ListElements.{Place, AllFirst}
 use Rattle.rinv_groebner.proofs.MemberLists.{member-same, member_zero, member-add, member-subtract, member-term}
 use Rattle.rinv_groebner.proofs.Reducible.{place_reducible}
-use Rattle.rinv_groebner.proofs.Rests.{coefficient-constant}
 use Rattle.rinv_groebner.proofs.StepClasses.{class-difference, class-term_product}
+
+-- a constant times a polynomial, at a monomial
+pub coefficient-constant : {K M P : Type 0} {𝓚 : CRing K} {𝓜 : Monoid M} (𝓣 : TermRing 𝓚 𝓜 P) (c : K) (x : P) (n : M) → 𝓣.coefficient (𝓣.ring.mul (𝓣.term c 𝓜.one) x) n ≡ 𝓚.mul c (𝓣.coefficient x n)
+coefficient-constant {𝓜 = 𝓜} 𝓣 c x n = ap (𝓣.coefficient _) (sym (𝓜.one_mul n)) ∙ 𝓣.coefficient_times c 𝓜.one n x
 
 module _ {R : Type 0} (𝓡 : CRing R) where
   open 𝓡 use {add as ◌+◌, mul as ◌*◌, neg as -◌}

@@ -24,17 +24,16 @@ use Rattle.rinv_groebner.specs.Orders.{OrdersMonomials}
 use Rattle.rinv_groebner.specs.Division.{Step, Steps, IsStep, IsDivision}
 use Rattle.rinv_groebner.specs.Reduced.{IsMonicOf, IsMadeAt}
 use Rattle.rinv_groebner.specs.Basis.{AreMembers}
-use Rattle.rinv_groebner.proofs.Ascending.{Has}
+use Rattle.rinv_groebner.proofs.Ascending.{Has, has_at, place_of}
 use Rattle.rinv_groebner.proofs.Compared.{all_monomials, InFirst, first-same, class_leads, has-coefficient, coefficient-has}
-use Rattle.rinv_groebner.proofs.Generates.{has_at, steps-first}
+use Rattle.rinv_groebner.proofs.Generates.{steps-first}
 use Rattle.rinv_groebner.proofs.IdealBases.{all_from, all_has, leads-nonzero}
 use Rattle.rinv_groebner.proofs.Kept.{none_passes}
 use Rattle.rinv_groebner.proofs.ListElements.{AllFirst}
 use Rattle.rinv_groebner.proofs.MemberLists.{member-same, member-subtract, member-term}
 use Rattle.rinv_groebner.proofs.MonomialLists.{Divisor, divides-divisor}
-use Rattle.rinv_groebner.proofs.NormalForms.{steps-member, class-scale}
+use Rattle.rinv_groebner.proofs.NormalForms.{coefficient-constant, steps-member, class-scale}
 use Rattle.rinv_groebner.proofs.Reducible.{divides-parts}
-use Rattle.rinv_groebner.proofs.Rests.{coefficient-constant}
 use Rattle.rinv_groebner.proofs.Removed.{has-remove, remove-place, first_from}
 use Rattle.rinv_groebner.proofs.StepClasses.{class-difference, step-class, multiple-of}
 
