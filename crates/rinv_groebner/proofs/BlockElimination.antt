@@ -1,16 +1,16 @@
 -- A block order eliminates the variables of its first blocks.
 --   blocks_eliminate     what is not greater than a monomial free of the first blocks is free of them
-use Rattle.std.proofs.Common.{◌≡◌, ℕ, zero, suc, ◌+◌, Bool, true, false, List, [], ◌∷◌, ◌++◌, take, drop, sum, refl, sym, ◌∙◌, ap, ap₂, arith, IsTrue, true≢false}
+use Rattle.std.proofs.Common.{◌≡◌, ℕ, zero, suc, ◌+◌, List, [], ◌∷◌, take, drop, sum, refl, sym, ◌∙◌, ap, arith, IsTrue, true≢false}
 use Rattle.std.specs.Prelude.{◌==◌}
 use Rattle.std.specs.Ordering.{is_ge, nat_cmp, ordering_then}
 use Rattle.std.specs.declared.cmp.Ordering.{Ordering}
-use Rattle.std.specs.declared.cmp.Ordering.TheVariants.{Less, Equal, Greater}
+use Rattle.std.specs.declared.cmp.Ordering.TheVariants.{Less, Equal}
 use Rattle.std.proofs.lemmas.Bool.{eqb-true}
 use Rattle.std.proofs.lemmas.Bool.Decides.{nat_tests}
 use Rattle.std.proofs.Math.Seq.{take-add}
 use Rattle.std.proofs.lemmas.List.Sums.{sum_by-cons, sum_by-append}
 use Rattle.rinv_algebra.specs.Order.{last_cmp, grevlex, block_order}
-use Rattle.rinv_groebner.specs.Elimination.{is_free, Eliminates}
+use Rattle.rinv_groebner.specs.Elimination.{Eliminates}
 
 -- the degree in the first k + j variables
 sum-first : (k j : ℕ) (a : List ℕ) → sum (take (k + j) a) ≡ sum (take k a) + sum (take j (drop k a))

@@ -2,9 +2,9 @@
 --   free_lead            where the leading monomial is free of the first variables, each monomial is
 --   part_basis           the part of a Gröbner basis that is free is one of the free polynomials of the ideal
 --   part-monic, part-apart, part-ascends    what a reduced basis has, its part has
-use Rattle.std.proofs.Common.{◌≡◌, ◌⊎◌, ℕ, zero, suc, ◌≤◌, ◌<◌, Bool, true, false, not, cond, List, [], ◌∷◌, length, take, sum, get_or, filter, refl, sym, ◌∙◌, ap, ap₂, subst, inl, inr, arith, IsTrue, true≢false}
+use Rattle.std.proofs.Common.{◌≡◌, ℕ, zero, suc, ◌≤◌, ◌<◌, Bool, true, false, cond, List, [], ◌∷◌, length, take, sum, get_or, filter, refl, sym, ◌∙◌, ap, subst, inl, inr, arith, IsTrue, true≢false}
 use Rattle.std.specs.Prelude.{IsFalse, ◌==◌, nat_lt}
-use Rattle.std.specs.List.{AllByRecursion, AllPairs}
+use Rattle.std.specs.List.{AllPairs}
 use Rattle.std.specs.declared.cmp.Ordering.{Ordering}
 use Rattle.std.specs.declared.cmp.Ordering.TheVariants.{Less}
 use Rattle.std.proofs.lemmas.Bool.{cases_Bool, eqb-true}
@@ -15,40 +15,30 @@ use Rattle.std.proofs.Math.Seq.{take-nil}
 use Rattle.std.proofs.lemmas.List.Sums.{sum_by-cons}
 use Rattle.rinv_algebra.specs.Ring.{RingOps, RingLaws, FieldLaws, IsSame}
 use Rattle.rinv_algebra.specs.Monomial.{divides}
-use Rattle.rinv_algebra.specs.Polynomial.{Polynomial, poly_ops, has_monomial, is_zero, difference}
-use Rattle.rinv_algebra.specs.Normal.{is_in_variables}
+use Rattle.rinv_algebra.specs.Polynomial.{Polynomial, has_monomial, is_zero}
 use Rattle.rinv_algebra.specs.Ideal.{IsMember}
 use Rattle.rinv_algebra.specs.Leading.{leading_monomial, leading_coefficient}
-use Rattle.rinv_theory.proofs.CRing.{CRing}
-use Rattle.rinv_theory.proofs.Solver.{ring, reading}
-use Rattle.rinv_theory.proofs.Classes.{class, class_ring, class_sound, class_exact}
-use Rattle.rinv_algebra.proofs.PolynomialLaws.{poly_laws}
-use Rattle.rinv_theory.proofs.Monoid.{Monomial, monomial}
-use Rattle.rinv_theory.proofs.TermRing.{coefficient-neg}
-use Rattle.rinv_theory.proofs.Polynomials.{polynomials, poly_ring, term_at}
-use Rattle.rinv_theory.proofs.Of.{of-coefficient}
+use Rattle.rinv_theory.proofs.Monoid.{monomial}
 use Rattle.rinv_theory.proofs.Variables.{in_variables-of}
-use Rattle.rinv_theory.proofs.Leads.{IsUpTo, upto-below}
 use Rattle.rinv_groebner.specs.Orders.{OrdersMonomials}
-use Rattle.rinv_groebner.specs.Division.{Step, Steps, IsDivision, is_reducible, lead_divides}
-use Rattle.rinv_groebner.specs.Basis.{IsGroebnerBasis, AreMembers}
+use Rattle.rinv_groebner.specs.Division.{Step, IsDivision, is_reducible, lead_divides}
+use Rattle.rinv_groebner.specs.Basis.{AreMembers}
 use Rattle.rinv_groebner.specs.Elimination.{is_free, Eliminates, IsFreeOf, free_part, IsEliminationBasis}
 use Rattle.rinv_groebner.specs.Reduced.{AreMonic, AreApart, Ascend}
 use Rattle.rinv_groebner.proofs.Ascending.{Has, split, has_at, place_of}
-use Rattle.rinv_groebner.proofs.Compared.{all_monomials, InFirst, class_leads, has_front, has-coefficient, less_below}
+use Rattle.rinv_groebner.proofs.Compared.{InFirst}
 use Rattle.rinv_groebner.proofs.DivisionLaws.{left-bounded}
 use Rattle.rinv_groebner.proofs.Generates.{own_members, steps-first}
-use Rattle.rinv_groebner.proofs.Greatest.{has-filter, filter-passes, not_less}
-use Rattle.rinv_groebner.proofs.IdealBases.{all_from, all_has, IsListBasis, list_basis, divided_first}
+use Rattle.rinv_groebner.proofs.Greatest.{has-filter, filter-passes}
+use Rattle.rinv_groebner.proofs.IdealBases.{all_from, all_has, IsListBasis, divided_first}
 use Rattle.rinv_groebner.proofs.LeadingMonomials.{leading_monomial-leads}
-use Rattle.rinv_groebner.proofs.ListElements.{Place, AllFirst}
+use Rattle.rinv_groebner.proofs.ListElements.{AllFirst}
 use Rattle.rinv_groebner.proofs.Removed.{first_from}
-use Rattle.rinv_groebner.proofs.MemberLists.{member-same, member_zero, member-subtract}
+use Rattle.rinv_groebner.proofs.MemberLists.{member_zero}
 use Rattle.rinv_groebner.proofs.MonomialLists.{Divisor, divisor-divides}
 use Rattle.rinv_groebner.proofs.NextSteps.{division_exists}
 use Rattle.rinv_groebner.proofs.NormalForms.{steps-member, division-normal_form, zero-member}
 use Rattle.rinv_groebner.proofs.Reducible.{reducible_place, place_reducible, place-inside}
-use Rattle.rinv_groebner.proofs.StepClasses.{class-difference, step-class, multiple-of}
 
 -- an element of a filtered list is one of the list
 filter-in : {A : Type 0} (test : A → Bool) {x : A} (xs : List A) → Has x (filter test xs) → Has x xs

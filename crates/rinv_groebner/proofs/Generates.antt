@@ -2,14 +2,14 @@
 --   own_members          the elements of a list are members of its ideal
 --   division-first       what a division leaves is a sum of terms in the same variables
 --   generates            each member, in v variables, is a member of the ideal of the list
-use Rattle.std.proofs.Common.{◌≡◌, ℕ, zero, suc, ◌<◌, List, [], ◌∷◌, length, get_or, arith}
+use Rattle.std.proofs.Common.{ℕ, List, []}
 use Rattle.std.specs.declared.cmp.Ordering.{Ordering}
 use Rattle.rinv_algebra.specs.Ring.{RingOps, RingLaws, FieldLaws}
 use Rattle.rinv_algebra.specs.Polynomial.{Polynomial}
 use Rattle.rinv_algebra.specs.Ideal.{IsMember}
 use Rattle.rinv_algebra.proofs.PolynomialLaws.{poly_laws}
 use Rattle.rinv_groebner.specs.Orders.{OrdersMonomials}
-use Rattle.rinv_groebner.specs.Division.{Step, Steps, IsDivision}
+use Rattle.rinv_groebner.specs.Division.{Step, Steps}
 use Rattle.rinv_groebner.specs.Basis.{AreMembers}
 use Rattle.rinv_groebner.proofs.Ascending.{has_at}
 use Rattle.rinv_groebner.proofs.Compared.{InFirst, first-same}

@@ -4,25 +4,15 @@
 --   kept_or              what stands against an element that is not kept
 --   kept-minimal         no leading monomial of the list properly divides that of a kept element
 --   kept-differ          no two kept elements have one leading monomial
-use Rattle.std.proofs.Common.{◌≡◌, ◌⊎◌, ℕ, zero, suc, ◌<◌, Bool, true, false, not, cond, ◌&&◌, List, [], ◌∷◌, ◌++◌, length, take, get_or, refl, sym, ◌∙◌, ap, subst, inl, inr, arith, IsTrue, true≢false}
-use Rattle.std.specs.Prelude.{IsFalse}
+use Rattle.std.proofs.Common.{◌≡◌, ◌⊎◌, ℕ, zero, suc, ◌<◌, Bool, true, false, not, cond, ◌&&◌, List, [], ◌∷◌, ◌++◌, length, take, get_or, refl, sym, ◌∙◌, ap, subst, inl, inr, arith, true≢false}
 use Rattle.std.specs.List.{list_any}
 use Rattle.std.specs.declared.cmp.Ordering.{Ordering}
 use Rattle.std.proofs.lemmas.Bool.Decides.{nat_tests}
 use Rattle.std.proofs.lemmas.List.{append_assoc, append-nil}
 use Rattle.rinv_algebra.specs.Ring.{RingOps}
-use Rattle.rinv_algebra.specs.Monomial.{same_monomial, divides}
 use Rattle.rinv_algebra.specs.Polynomial.{Polynomial}
-use Rattle.rinv_algebra.specs.Leading.{leading_monomial}
-use Rattle.rinv_algebra.proofs.MonomialLaws.{same_monomial_sym}
-use Rattle.rinv_theory.proofs.Monoid.{Monomial, monomial, monomials, monomial_exact}
-use Rattle.rinv_theory.proofs.ListOrders.{order_of}
-use Rattle.rinv_theory.proofs.LastVariable.{later, later-nil, later_order, later_well_founded}
-use Rattle.rinv_theory.proofs.WellOrders.{order_of_well}
-use Rattle.rinv_groebner.specs.Reduced.{same_lead, properly_divides, is_kept, kept_after, kept}
+use Rattle.rinv_groebner.specs.Reduced.{same_lead, properly_divides, is_kept, kept_after}
 use Rattle.rinv_groebner.proofs.Ascending.{Has, split, has_at}
-use Rattle.rinv_groebner.proofs.MonomialLists.{Divisor, divides-divisor}
-use Rattle.rinv_groebner.proofs.Reducible.{first_passing}
 
 -- ---- lists
 

@@ -6,7 +6,7 @@ use Rattle.std.proofs.Common.{◌≡◌, ◌⊎◌, ℕ, ◌≤◌, Bool, true, 
 use Rattle.std.specs.Prelude.{IsFalse, nat_le}
 use Rattle.std.specs.Ordering.{is_ge, ordering_reverse}
 use Rattle.std.specs.declared.cmp.Ordering.{Ordering}
-use Rattle.std.specs.declared.cmp.Ordering.TheVariants.{Less, Equal}
+use Rattle.std.specs.declared.cmp.Ordering.TheVariants.{Less}
 use Rattle.std.proofs.lemmas.Bool.Decides.{nat_tests}
 use Rattle.rinv_algebra.specs.Ring.{RingOps, RingLaws, IsSame}
 use Rattle.rinv_algebra.specs.Monomial.{same_monomial}
@@ -15,14 +15,14 @@ use Rattle.rinv_algebra.specs.Polynomial.{Polynomial, poly_ops, coefficient, has
 use Rattle.rinv_algebra.specs.Normal.{is_in_variables}
 use Rattle.rinv_algebra.specs.Leading.{IsLeadingMonomial, leading_monomial}
 use Rattle.rinv_algebra.proofs.Same.{both, IsAbsent, coefficient-absent, coefficient-same_monomial, same-from_coefficients}
-use Rattle.rinv_theory.proofs.Classes.{class, class_sound, class_exact, class_ring, class-zero}
-use Rattle.rinv_theory.proofs.Monoid.{IsOne, monomial, monomial_ind, monomial_sound}
+use Rattle.rinv_theory.proofs.Classes.{class, class_sound, class_exact, class-zero}
+use Rattle.rinv_theory.proofs.Monoid.{IsOne, monomial, monomial_sound}
 use Rattle.rinv_theory.proofs.Polynomials.{polynomials, class-coefficient}
 use Rattle.rinv_theory.proofs.Leads.{Leads}
 use Rattle.rinv_theory.proofs.WellOrders.{tied}
 use Rattle.rinv_groebner.proofs.Ascending.{Has}
-use Rattle.rinv_groebner.proofs.Greatest.{has-filter, filter-passes, not_less, ge-not_less, reduced}
-use Rattle.rinv_groebner.proofs.FirstVariables.{order_in, order_in-less, below-less_in}
+use Rattle.rinv_groebner.proofs.Greatest.{has-filter, filter-passes, not_less, reduced}
+use Rattle.rinv_groebner.proofs.FirstVariables.{order_in, order_in-less}
 
 -- the monomials of the terms
 abbrev listed : {E : Type 0} → Polynomial E → List (List ℕ)

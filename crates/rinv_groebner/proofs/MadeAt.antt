@@ -1,42 +1,36 @@
 -- What is made of the element at a place: what division by the others leaves, made monic.
 --   IsFrom k g, made_from    what is known of the element that is made of the one at place k
 --   made_exists          there is such an element
-use Rattle.std.proofs.Common.{◌≡◌, ◌⊎◌, ℕ, zero, suc, ◌<◌, Bool, true, false, List, [], ◌∷◌, length, get_or, refl, sym, ◌∙◌, ap, ap₂, subst, inl, inr, arith, IsTrue, true≢false}
+use Rattle.std.proofs.Common.{◌≡◌, ℕ, ◌<◌, List, [], length, get_or, sym, ◌∙◌, ap, subst, IsTrue}
 use Rattle.std.specs.Prelude.{IsFalse, remove}
 use Rattle.std.specs.declared.cmp.Ordering.{Ordering}
 use Rattle.rinv_algebra.specs.Ring.{RingOps, RingLaws, FieldLaws, IsSame}
-use Rattle.rinv_algebra.specs.Polynomial.{Polynomial, poly_ops, has_monomial, is_zero, difference, scale}
+use Rattle.rinv_algebra.specs.Polynomial.{Polynomial, poly_ops, has_monomial, is_zero, scale}
 use Rattle.rinv_algebra.specs.Ideal.{IsMember}
 use Rattle.rinv_algebra.specs.Leading.{leading_monomial, leading_coefficient}
 use Rattle.rinv_algebra.proofs.PolynomialLaws.{poly_laws}
-use Rattle.rinv_theory.proofs.CRing.{CRing, mul_zero}
-use Rattle.rinv_theory.proofs.Solver.{ring, reading}
-use Rattle.rinv_theory.proofs.Classes.{Class, class, class_ring, class_sound, class_exact, class-mul, class-zero, class-one}
+use Rattle.rinv_theory.proofs.CRing.{mul_zero}
+use Rattle.rinv_theory.proofs.Classes.{class, class_ring, class_sound, class_exact, class-mul, class-one}
 use Rattle.rinv_theory.proofs.Monoid.{Monomial, monomial, monomials}
-use Rattle.rinv_theory.proofs.TermRing.{TermRing, coefficient-neg, coefficient-zero}
-use Rattle.rinv_theory.proofs.Polynomials.{polynomials, poly_ring, term_at, class-coefficient}
-use Rattle.rinv_theory.proofs.Of.{Of, of-coefficient, of-times}
-use Rattle.rinv_theory.proofs.Variables.{IsFront, in_variables-of}
-use Rattle.rinv_theory.proofs.Leads.{IsUpTo, below-asym, upto-below, Leads, lead-unique}
+use Rattle.rinv_theory.proofs.Polynomials.{polynomials, poly_ring, class-coefficient}
+use Rattle.rinv_theory.proofs.Of.{Of, of-times}
+use Rattle.rinv_theory.proofs.Variables.{IsFront}
+use Rattle.rinv_theory.proofs.Leads.{Leads, lead-unique}
 use Rattle.rinv_theory.proofs.Fields.{class_domain}
 use Rattle.rinv_groebner.specs.Orders.{OrdersMonomials}
-use Rattle.rinv_groebner.specs.Division.{Step, lead_divides, IsDivision}
-use Rattle.rinv_groebner.specs.Reduced.{IsMonicOf, IsMadeAt}
+use Rattle.rinv_groebner.specs.Division.{lead_divides}
+use Rattle.rinv_groebner.specs.Reduced.{IsMadeAt}
 use Rattle.rinv_groebner.specs.Basis.{AreMembers}
-use Rattle.rinv_groebner.proofs.Ascending.{Has, has_at, place_of}
-use Rattle.rinv_groebner.proofs.Compared.{all_monomials, InFirst, first-same, class_leads, has-coefficient, coefficient-has}
-use Rattle.rinv_groebner.proofs.Generates.{steps-first}
-use Rattle.rinv_groebner.proofs.IdealBases.{all_from, all_has, leads-nonzero}
+use Rattle.rinv_groebner.proofs.Ascending.{has_at}
+use Rattle.rinv_groebner.proofs.Compared.{all_monomials, InFirst, class_leads, has-coefficient, coefficient-has}
+use Rattle.rinv_groebner.proofs.IdealBases.{leads-nonzero}
 use Rattle.rinv_groebner.proofs.Kept.{none_passes}
-use Rattle.rinv_groebner.proofs.ListElements.{AllFirst, lead-inverse}
+use Rattle.rinv_groebner.proofs.ListElements.{lead-inverse}
 use Rattle.rinv_groebner.proofs.NextSteps.{division_exists}
-use Rattle.rinv_groebner.proofs.MemberLists.{member-same, member-subtract, member-term}
-use Rattle.rinv_groebner.proofs.MonomialLists.{Divisor, divides-divisor}
-use Rattle.rinv_groebner.proofs.NormalForms.{coefficient-constant, steps-member, class-scale}
-use Rattle.rinv_groebner.proofs.Reducible.{divides-parts}
+use Rattle.rinv_groebner.proofs.MemberLists.{member-same, member-term}
+use Rattle.rinv_groebner.proofs.NormalForms.{coefficient-constant, class-scale}
 use Rattle.rinv_groebner.proofs.Remainders.{AreSpread, IsRemainder, remainder}
 use Rattle.rinv_groebner.proofs.Removed.{has-remove, has_other, first_from}
-use Rattle.rinv_groebner.proofs.StepClasses.{class-difference, step-class, multiple-of}
 
 module _ {E : Type 0} (o : RingOps E) (l : RingLaws o) (field : FieldLaws o) (cmp : List ℕ → List ℕ → Ordering) (v : ℕ) (order : OrdersMonomials cmp v) (fs ks : List (Polynomial E)) where
   -- what is known of the element that is made of the one at place k

@@ -3,7 +3,7 @@
 --   made_list            something is made
 --   made_reduced         what is made is a reduced Gröbner basis
 --   made-same            and is determined
-use Rattle.std.proofs.Common.{◌≡◌, ℕ, zero, suc, ◌<◌, Bool, true, false, not, List, [], ◌∷◌, length, get_or, refl, sym, ◌∙◌, ap, subst, arith, IsTrue, true≢false}
+use Rattle.std.proofs.Common.{◌≡◌, ℕ, zero, suc, ◌<◌, Bool, true, false, List, [], ◌∷◌, length, get_or, refl, sym, ◌∙◌, ap, subst, arith, IsTrue, true≢false}
 use Rattle.std.specs.Prelude.{IsFalse}
 use Rattle.std.specs.List.{AllZip}
 use Rattle.std.specs.declared.cmp.Ordering.{Ordering}
@@ -14,9 +14,7 @@ use Rattle.rinv_algebra.specs.Leading.{leading_monomial}
 use Rattle.rinv_algebra.proofs.PolynomialLaws.{poly_laws}
 use Rattle.rinv_theory.proofs.Classes.{class_exact, class_dec}
 use Rattle.rinv_theory.proofs.Polynomials.{polynomials}
-use Rattle.rinv_theory.proofs.WellOrders.{IsWellOrder}
 use Rattle.rinv_theory.proofs.Monoid.{Monomial, monomial}
-use Rattle.rinv_theory.proofs.Variables.{in_variables-of}
 use Rattle.rinv_groebner.specs.Orders.{OrdersMonomials}
 use Rattle.rinv_groebner.specs.Division.{lead_divides, AreSame}
 use Rattle.rinv_groebner.specs.Basis.{IsGroebnerBasis, AreMembers, GenerateOneIdeal}

@@ -2,14 +2,10 @@
 --   kept_divisor         the greatest monomial of each element is a multiple of that of a kept one
 use Rattle.std.proofs.Common.{◌≡◌, ◌⊎◌, ℕ, zero, suc, ◌<◌, refl, ◌∙◌, ap, subst, inl, inr, arith}
 use mathlib.Core.WellFounded.{Acc}
-use mathlib.Core.Logic.{∥∥₁_map}
-use Rattle.rinv_theory.proofs.CRing.{CRing}
 use Rattle.rinv_theory.proofs.Monoid.{Monoid}
-use Rattle.rinv_theory.proofs.TermRing.{TermRing}
 use Rattle.rinv_theory.proofs.Leads.{MonomialOrder, IsUpTo}
 use Rattle.rinv_theory.proofs.WellOrders.{IsWellOrder}
 use Rattle.rinv_groebner.proofs.Divisors.{divisor-upto}
-use Rattle.rinv_groebner.proofs.Bases.{IsBasis}
 
 -- any order of the monomials with no endless descent serves
 module _ {M I : Type 0} {𝓜 : Monoid M} (𝓦 : MonomialOrder 𝓜) (well : IsWellOrder 𝓦) (lm : I → M) (place : I → ℕ) (Kept : I → Type 0)

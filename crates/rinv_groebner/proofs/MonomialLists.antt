@@ -6,14 +6,14 @@
 --   lcm_left, lcm_right, lcm_least    a least common multiple
 --   front_at, front_from, lcm-front, quotient-front    monomials in the first v variables
 --   coprime_multiples    where two multiples of coprime monomials are equal, each has the other monomial for a factor
-use Rattle.std.proofs.Common.{◌≡◌, ◌⊎◌, ℕ, zero, suc, ◌+◌, ◌-◌, ◌<◌, ◌≤◌, max, Bool, true, false, List, [], ◌∷◌, length-take, take, get_or, refl, sym, ◌∙◌, ap, ap₂, arith, inl, inr, IsTrue}
+use Rattle.std.proofs.Common.{◌≡◌, ◌⊎◌, ℕ, zero, suc, ◌+◌, ◌-◌, ◌<◌, ◌≤◌, max, List, [], ◌∷◌, length-take, take, get_or, refl, sym, ◌∙◌, ap, arith, inl, inr, IsTrue}
 use Rattle.std.specs.Prelude.{nat_le}
 use Rattle.std.proofs.lemmas.Bool.{cases_Bool}
 use Rattle.std.proofs.lemmas.List.{get_or-take, get_or_past}
 use Rattle.std.proofs.lemmas.Bool.Decides.{nat_tests}
 use mathlib.Core.Bool.{Bool-set}
 use mathlib.Core.HLevel.{Σ_prop_path}
-use Rattle.rinv_algebra.specs.Monomial.{same_monomial, monomial_product, divides, quotient, lcm, coprime}
+use Rattle.rinv_algebra.specs.Monomial.{monomial_product, divides, quotient, lcm, coprime}
 use Rattle.rinv_algebra.proofs.MonomialLaws.{get_or-product, same_at, same_from}
 use Rattle.rinv_theory.proofs.Monoid.{IsOne, Monomial, monomial, monomials, monomial_ind, monomial_sound, monomial_exact, monomial-mul}
 use Rattle.rinv_theory.proofs.Places.{front-list}

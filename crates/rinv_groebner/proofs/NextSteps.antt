@@ -2,30 +2,27 @@
 --   next_or_irreducible    the greatest reducible monomial, where there is one
 --   next_step            the step that cancels it
 --   division_exists      each polynomial can be divided
-use Rattle.std.proofs.Common.{◌≡◌, ◌⊎◌, ℕ, Bool, true, false, not, List, [], ◌∷◌, get_or, map, cond, refl, sym, ◌∙◌, ap, subst, inl, inr, IsTrue, true≢false}
-use Rattle.std.specs.Prelude.{IsFalse, filter, unwrap_or, if◌then◌else◌}
+use Rattle.std.proofs.Common.{◌≡◌, ◌⊎◌, ℕ, Bool, true, false, List, [], ◌∷◌, get_or, map, cond, refl, sym, ◌∙◌, ap, subst, inl, inr, IsTrue}
+use Rattle.std.specs.Prelude.{filter, unwrap_or, if◌then◌else◌}
 use Rattle.std.specs.List.{reduce}
 use Rattle.std.specs.Ordering.{is_lt, is_ge}
 use Rattle.std.specs.declared.cmp.Ordering.{Ordering}
 use mathlib.Core.WellFounded.{Acc}
 use Rattle.rinv_algebra.specs.Ring.{RingOps, RingLaws, FieldLaws, IsSame}
 use Rattle.rinv_algebra.specs.Monomial.{quotient}
-use Rattle.rinv_algebra.specs.Polynomial.{Polynomial, poly_ops, coefficient, has_monomial, monomials, term_product, difference}
+use Rattle.rinv_algebra.specs.Polynomial.{Polynomial, coefficient, has_monomial, monomials, term_product, difference}
 use Rattle.rinv_algebra.specs.Leading.{leading_monomial, leading_coefficient}
-use Rattle.rinv_algebra.proofs.MonomialLaws.{same_monomial_sym}
 use Rattle.rinv_algebra.proofs.PolynomialLaws.{poly_laws}
-use Rattle.rinv_algebra.proofs.RingFacts as facts
 use Rattle.rinv_theory.proofs.AlikeSolver.{alike_ring, alike_by, alike_reading}
 use Rattle.rinv_theory.proofs.Monoid.{IsOne, Monomial, monomial}
-use Rattle.rinv_theory.proofs.WellOrders.{IsWellOrder}
 use Rattle.rinv_groebner.specs.Orders.{OrdersMonomials}
-use Rattle.rinv_groebner.specs.Division.{Step, lead_divides, is_reducible, IsIrreducible, IsNext, IsStep, IsDivision}
+use Rattle.rinv_groebner.specs.Division.{Step, is_reducible, IsIrreducible, IsNext, IsStep, IsDivision}
 use Rattle.rinv_groebner.proofs.Ascending.{Has}
 use Rattle.rinv_groebner.proofs.Greatest.{has-filter, filter-passes, reduced}
 use Rattle.rinv_groebner.proofs.FirstVariables.{order_in-well}
 use Rattle.rinv_groebner.proofs.LeadingMonomials.{present, has_monomial-same}
 use Rattle.rinv_groebner.proofs.MonomialLists.{product-quotient}
-use Rattle.rinv_groebner.proofs.Compared.{all_monomials, InFirst, first-same, compare-right}
+use Rattle.rinv_groebner.proofs.Compared.{all_monomials, InFirst, compare-right}
 use Rattle.rinv_groebner.proofs.ListElements.{AllFirst, lead-inverse}
 use Rattle.rinv_groebner.proofs.Reducible.{divides-parts, first_divisor, divisor_reducible, reducible-one}
 use Rattle.rinv_groebner.proofs.StepClasses.{step-first, step-falls}

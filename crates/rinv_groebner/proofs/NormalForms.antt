@@ -7,7 +7,7 @@
 --   division-normal_form what a division leaves is a normal form
 use Rattle.std.proofs.Common.{◌≡◌, ℕ, Bool, true, false, List, [], ◌∷◌, ◌++◌, get_or, refl, sym, ◌∙◌, ap, ap₂, subst, IsTrue, true≢false}
 use Rattle.std.specs.declared.cmp.Ordering.{Ordering}
-use Rattle.rinv_algebra.specs.Ring.{RingOps, RingLaws, FieldLaws, IsSame}
+use Rattle.rinv_algebra.specs.Ring.{RingOps, RingLaws, IsSame}
 use Rattle.rinv_algebra.specs.Monomial.{monomial_product}
 use Rattle.rinv_algebra.specs.Polynomial.{Polynomial, poly_ops, is_zero, difference, scale, term_product}
 use Rattle.rinv_algebra.specs.Ideal.{IsMember}
@@ -22,12 +22,12 @@ use Rattle.rinv_theory.proofs.TermRing.{TermRing, coefficient-zero}
 use Rattle.rinv_theory.proofs.Variables.{in_variables-of}
 use Rattle.rinv_groebner.specs.Orders.{OrdersMonomials}
 use Rattle.rinv_groebner.specs.Division.{Step, is_reducible, IsIrreducible, Steps, IsDivision}
-use Rattle.rinv_groebner.specs.Basis.{IsGroebnerBasis, AreMembers}
+use Rattle.rinv_groebner.specs.Basis.{AreMembers}
 use Rattle.rinv_groebner.specs.Reduced.{IsNormalForm}
 use Rattle.rinv_groebner.proofs.Bases.{normal-unique}
 use Rattle.rinv_groebner.proofs.Compared.{all_monomials, InFirst, has-coefficient, coefficient-has}
 use Rattle.rinv_groebner.proofs.IdealBases.{all_at, in_ideal, first-difference, InIdeal, IsListBasis}
-use Rattle.rinv_groebner.proofs.ListElements.{Place, AllFirst}
+use Rattle.rinv_groebner.proofs.ListElements.{Place}
 use Rattle.rinv_groebner.proofs.MemberLists.{member-same, member_zero, member-add, member-subtract, member-term}
 use Rattle.rinv_groebner.proofs.Reducible.{place_reducible}
 use Rattle.rinv_groebner.proofs.StepClasses.{class-difference, class-term_product}

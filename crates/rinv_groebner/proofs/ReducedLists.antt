@@ -3,19 +3,15 @@
 --   basis-of             a Gröbner basis of an ideal, by other generators of this ideal
 --   list_reduced         the elements are a reduced basis of the ideal
 --   reduced-same         reduced bases of one ideal that ascend are the same
-use Rattle.std.proofs.Common.{◌≡◌, ◌⊎◌, ℕ, zero, suc, ◌<◌, ◌-◌, Bool, true, false, not, List, [], ◌∷◌, length, map, drop, get_or, refl, sym, ◌∙◌, ap, ap₂, subst, inl, inr, arith, IsTrue, true≢false}
+use Rattle.std.proofs.Common.{◌≡◌, ℕ, zero, suc, ◌<◌, Bool, true, false, List, [], ◌∷◌, length, map, drop, get_or, refl, sym, ◌∙◌, ap, ap₂, subst, arith, IsTrue, true≢false}
 use Rattle.std.specs.Prelude.{IsFalse, ◌==◌}
-use Rattle.std.specs.List.{AllByRecursion, AllPairs, AllZip}
 use Rattle.std.specs.declared.cmp.Ordering.{Ordering}
-use Rattle.std.specs.declared.cmp.Ordering.TheVariants.{Less}
-use Rattle.std.proofs.lemmas.Bool.{cases_Bool, eqb-true}
+use Rattle.std.proofs.lemmas.Bool.{eqb-true}
 use Rattle.std.proofs.lemmas.Bool.Decides.{nat_tests}
-use Rattle.std.proofs.lemmas.List.{length-map}
 use mathlib.Core.Logic.{∥∥₁_map}
 use Rattle.rinv_algebra.specs.Ring.{RingOps, RingLaws, FieldLaws, IsSame}
 use Rattle.rinv_algebra.specs.Monomial.{monomial_product}
 use Rattle.rinv_algebra.specs.Polynomial.{Polynomial, poly_ops, coefficient, has_monomial, is_zero}
-use Rattle.rinv_algebra.specs.Ideal.{IsMember}
 use Rattle.rinv_algebra.specs.Leading.{leading_monomial, leading_coefficient}
 use Rattle.rinv_algebra.proofs.PolynomialLaws.{poly_laws}
 use Rattle.rinv_algebra.proofs.RingFacts as facts
@@ -24,16 +20,15 @@ use Rattle.rinv_theory.proofs.Classes.{Class, class, class_ring, class_sound, cl
 use Rattle.rinv_theory.proofs.Monoid.{Monomial, monomial, monomials, monomial_ind, monomial-mul}
 use Rattle.rinv_theory.proofs.Polynomials.{polynomials, poly_ring, class-coefficient}
 use Rattle.rinv_theory.proofs.Variables.{IsFront}
-use Rattle.rinv_theory.proofs.WellOrders.{IsWellOrder}
 use Rattle.rinv_groebner.specs.Orders.{OrdersMonomials}
 use Rattle.rinv_groebner.specs.Division.{lead_divides, AreSame}
 use Rattle.rinv_groebner.specs.Basis.{IsGroebnerBasis, AreMembers, GenerateOneIdeal}
-use Rattle.rinv_groebner.specs.Reduced.{IsReducedGroebnerBasis, AreMonic, AreApart, Ascend}
+use Rattle.rinv_groebner.specs.Reduced.{IsReducedGroebnerBasis, Ascend}
 use Rattle.rinv_groebner.proofs.Ascending.{Has, Bounds, Ascends, ascending-equal}
 use Rattle.rinv_groebner.proofs.Bases.{IsReduced, reduced-unique}
-use Rattle.rinv_groebner.proofs.Compared.{all_monomials, InFirst, less_below, coefficient-has, nonzero-front}
+use Rattle.rinv_groebner.proofs.Compared.{all_monomials, less_below, coefficient-has, nonzero-front}
 use Rattle.rinv_groebner.proofs.FirstVariables.{order_in-well}
-use Rattle.rinv_groebner.proofs.IdealBases.{InIdeal, in_ideal-subtract, IsListBasis, list_basis, place_lead, place_element}
+use Rattle.rinv_groebner.proofs.IdealBases.{InIdeal, in_ideal-subtract, list_basis, place_lead, place_element}
 use Rattle.rinv_groebner.proofs.ListElements.{Place, AllFirst, list-leads}
 use Rattle.rinv_groebner.proofs.MemberLists.{member_trans}
 use Rattle.rinv_groebner.proofs.MonomialLists.{divisor-divides}

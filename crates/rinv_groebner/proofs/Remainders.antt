@@ -2,40 +2,35 @@
 --   AreSpread ks         the elements are sums of terms in v variables, not zero, and no leading monomial divides another
 --   steps-upper          division by elements that do not divide the leading monomial changes lower monomials alone
 --   IsRemainder k r, remainder    what is left of the element at place k is a member with the same leading monomial
-use Rattle.std.proofs.Common.{◌≡◌, ◌⊎◌, ℕ, zero, suc, ◌<◌, Bool, true, false, List, [], ◌∷◌, length, get_or, refl, sym, ◌∙◌, ap, ap₂, subst, inl, inr, arith, IsTrue, true≢false}
+use Rattle.std.proofs.Common.{◌≡◌, ◌⊎◌, ℕ, ◌<◌, List, [], ◌∷◌, length, get_or, refl, sym, ◌∙◌, ap, subst, inl, inr}
 use Rattle.std.specs.Prelude.{IsFalse, remove}
 use Rattle.std.specs.declared.cmp.Ordering.{Ordering}
-use Rattle.rinv_algebra.specs.Ring.{RingOps, RingLaws, FieldLaws, IsSame}
-use Rattle.rinv_algebra.specs.Polynomial.{Polynomial, poly_ops, has_monomial, is_zero, difference, scale}
+use Rattle.rinv_algebra.specs.Ring.{RingOps, RingLaws}
+use Rattle.rinv_algebra.specs.Polynomial.{Polynomial, poly_ops, is_zero}
 use Rattle.rinv_algebra.specs.Ideal.{IsMember}
-use Rattle.rinv_algebra.specs.Leading.{leading_monomial, leading_coefficient}
+use Rattle.rinv_algebra.specs.Leading.{leading_monomial}
 use Rattle.rinv_algebra.proofs.PolynomialLaws.{poly_laws}
-use Rattle.rinv_theory.proofs.CRing.{CRing, mul_zero}
+use Rattle.rinv_theory.proofs.CRing.{CRing}
 use Rattle.rinv_theory.proofs.Solver.{ring, reading}
-use Rattle.rinv_theory.proofs.Classes.{Class, class, class_ring, class_sound, class_exact, class-mul, class-zero, class-one}
-use Rattle.rinv_theory.proofs.Monoid.{Monomial, monomial, monomials}
-use Rattle.rinv_theory.proofs.TermRing.{TermRing, coefficient-neg, coefficient-zero}
-use Rattle.rinv_theory.proofs.Polynomials.{polynomials, poly_ring, term_at, class-coefficient}
-use Rattle.rinv_theory.proofs.Of.{Of, of-coefficient, of-times}
-use Rattle.rinv_theory.proofs.Variables.{IsFront, in_variables-of}
+use Rattle.rinv_theory.proofs.Classes.{class, class_ring, class_sound}
+use Rattle.rinv_theory.proofs.Monoid.{Monomial, monomial}
+use Rattle.rinv_theory.proofs.TermRing.{coefficient-neg}
+use Rattle.rinv_theory.proofs.Polynomials.{polynomials, poly_ring, term_at}
+use Rattle.rinv_theory.proofs.Of.{of-coefficient}
 use Rattle.rinv_theory.proofs.Leads.{IsUpTo, below-asym, upto-below, Leads, lead-unique}
-use Rattle.rinv_theory.proofs.Fields.{class_domain}
 use Rattle.rinv_groebner.specs.Orders.{OrdersMonomials}
-use Rattle.rinv_groebner.specs.Division.{Step, Steps, IsStep, IsDivision}
-use Rattle.rinv_groebner.specs.Reduced.{IsMonicOf, IsMadeAt}
+use Rattle.rinv_groebner.specs.Division.{Step, Steps, IsDivision}
 use Rattle.rinv_groebner.specs.Basis.{AreMembers}
-use Rattle.rinv_groebner.proofs.Ascending.{Has, has_at, place_of}
-use Rattle.rinv_groebner.proofs.Compared.{all_monomials, InFirst, first-same, class_leads, has-coefficient, coefficient-has}
+use Rattle.rinv_groebner.proofs.Ascending.{Has, has_at}
+use Rattle.rinv_groebner.proofs.Compared.{all_monomials, InFirst, class_leads, has-coefficient}
 use Rattle.rinv_groebner.proofs.Generates.{steps-first}
 use Rattle.rinv_groebner.proofs.IdealBases.{all_from, all_has, leads-nonzero}
-use Rattle.rinv_groebner.proofs.Kept.{none_passes}
 use Rattle.rinv_groebner.proofs.ListElements.{AllFirst}
-use Rattle.rinv_groebner.proofs.MemberLists.{member-same, member-subtract, member-term}
 use Rattle.rinv_groebner.proofs.MonomialLists.{Divisor, divides-divisor}
-use Rattle.rinv_groebner.proofs.NormalForms.{coefficient-constant, steps-member, class-scale}
+use Rattle.rinv_groebner.proofs.NormalForms.{steps-member}
 use Rattle.rinv_groebner.proofs.Reducible.{divides-parts}
 use Rattle.rinv_groebner.proofs.Removed.{has-remove, remove-place, first_from}
-use Rattle.rinv_groebner.proofs.StepClasses.{class-difference, step-class, multiple-of}
+use Rattle.rinv_groebner.proofs.StepClasses.{step-class, multiple-of}
 
 module _ {R : Type 0} (𝓡 : CRing R) where
   without_zero : (x : R) → 𝓡.add x (𝓡.neg 𝓡.zero) ≡ x

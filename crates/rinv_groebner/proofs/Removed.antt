@@ -8,7 +8,7 @@ use Rattle.std.specs.Prelude.{remove}
 use Rattle.rinv_algebra.specs.Ring.{RingOps, RingLaws}
 use Rattle.rinv_algebra.specs.Polynomial.{Polynomial}
 use Rattle.rinv_theory.proofs.Variables.{in_variables-of}
-use Rattle.rinv_groebner.proofs.Ascending.{Has, has_at, place_of}
+use Rattle.rinv_groebner.proofs.Ascending.{Has, has_at}
 use Rattle.rinv_groebner.proofs.Compared.{InFirst}
 use Rattle.rinv_groebner.proofs.ListElements.{AllFirst}
 
