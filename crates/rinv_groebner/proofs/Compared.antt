@@ -41,7 +41,8 @@ module _ (cmp : List ℕ → List ℕ → Ordering) (v : ℕ) (order : OrdersMon
   abbrev pub all_monomials : MonomialOrder monomials
   all_monomials = order_in cmp order.laws v
 
-  first_of : (a : List ℕ) → IsFront v (monomial a) → IsOne a (take v a)
+  -- a monomial in the first v variables, written with at most v exponents
+  pub first_of : (a : List ℕ) → IsFront v (monomial a) → IsOne a (take v a)
   first_of a e = monomial_exact a (take v a) (sym e ∙ front-list v a)
 
   short : (a : List ℕ) → length (take v a) ≤ v

@@ -50,3 +50,5 @@ pub mod JournalPairs
 pub mod JournalFacts
 pub mod JournalBasis
 pub mod JournalUnique
+pub mod PairLists
+pub mod JournalExists
