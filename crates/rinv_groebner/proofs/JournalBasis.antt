@@ -1,7 +1,6 @@
 -- A complete journal makes a Gröbner basis of the ideal of the polynomials given.
-use Rattle.std.proofs.Common.{◌≡◌, ℕ, zero, suc, ◌<◌, not, List, [], ◌∷◌, ◌++◌, length, append-nil, get_or, refl, sym, ap, arith, IsTrue}
+use Rattle.std.proofs.Common.{ℕ, suc, ◌<◌, not, List, [], ◌∷◌, length, append-nil, get_or, refl, sym, ap, arith}
 use Rattle.std.specs.Prelude.{IsFalse}
-use Rattle.std.specs.List.{list_all}
 use Rattle.std.specs.declared.cmp.Ordering.{Ordering}
 use Rattle.rinv_algebra.specs.Ring.{RingOps, RingLaws, FieldLaws}
 use Rattle.rinv_algebra.specs.Polynomial.{Polynomial, is_zero}

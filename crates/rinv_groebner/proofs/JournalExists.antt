@@ -1,8 +1,8 @@
 -- There is a complete journal: Buchberger's algorithm ends. A pair more is settled at each step, or a leading monomial is added that no
 -- earlier one divides.
 --   journal_exists       a complete journal, and the list that it makes
-use Rattle.std.proofs.Common.{◌≡◌, ◌⊎◌, ℕ, zero, suc, ◌<◌, ◌≤◌, Bool, true, false, not, List, [], ◌∷◌, ◌++◌, length, length-take, take, get_or, refl, sym, ◌∙◌, ap, subst, inl, inr, arith, IsTrue, true≢false}
-use Rattle.std.specs.Prelude.{IsFalse, ◌||◌, Option, Some, None}
+use Rattle.std.proofs.Common.{◌≡◌, ◌⊎◌, ℕ, suc, ◌<◌, ◌≤◌, Bool, true, false, not, List, [], ◌∷◌, ◌++◌, length, length-take, take, get_or, refl, sym, ◌∙◌, ap, inl, inr, arith, IsTrue, true≢false}
+use Rattle.std.specs.Prelude.{IsFalse, ◌||◌, Some, None}
 use Rattle.std.specs.List.{list_any, AllByRecursion}
 use Rattle.std.specs.declared.cmp.Ordering.{Ordering}
 use Rattle.std.proofs.lemmas.Bool.{cases_Bool}
@@ -18,8 +18,8 @@ use Rattle.rinv_theory.proofs.Monoid.{IsOne, monomial}
 use Rattle.rinv_groebner.specs.Orders.{OrdersMonomials}
 use Rattle.rinv_groebner.specs.Division.{Step, is_reducible, IsIrreducible, IsDivision}
 use Rattle.rinv_groebner.specs.Settled.{is_listed, lead_at}
-use Rattle.rinv_groebner.specs.Count.{is_undivided, AddsUndivided}
-use Rattle.rinv_groebner.specs.Journal.{Entry, Kind, reduced, coprime as coprime_kind, chain, pairs_of, kept_steps, nonzeros, IsOpen, IsEntry, LeavesRest, Journal, IsComplete}
+use Rattle.rinv_groebner.specs.Count.{AddsUndivided}
+use Rattle.rinv_groebner.specs.Journal.{Entry, reduced, coprime as coprime_kind, pairs_of, kept_steps, nonzeros, IsOpen, LeavesRest, Journal, IsComplete}
 use Rattle.rinv_groebner.proofs.Compared.{InFirst, nonzero-front, class_leads, first_of}
 use Rattle.rinv_groebner.proofs.ListElements.{AllFirst}
 use Rattle.rinv_groebner.proofs.LeadingMonomials.{leading_monomial-leads}
@@ -29,7 +29,7 @@ use Rattle.rinv_groebner.proofs.NextSteps.{division_exists}
 use Rattle.rinv_groebner.proofs.Ascents.{ascents_end}
 use Rattle.rinv_groebner.proofs.PairsOfLists.{s_polynomial-first}
 use Rattle.rinv_groebner.proofs.SettledLists.{pair_cases}
-use Rattle.rinv_groebner.proofs.PairLists.{listed-first, listed-later, listed-more, listed-entry, all_pairs, all-listed, IsInside, all-inside}
+use Rattle.rinv_groebner.proofs.PairLists.{listed-more, listed-entry, all_pairs, all-listed, IsInside, all-inside}
 use Rattle.rinv_groebner.proofs.JournalFacts.{ListFacts, journal-facts}
 use Rattle.rinv_groebner.proofs.JournalUnique.{same_refl}
 

@@ -1,26 +1,25 @@
 -- What holds of the list that a journal makes.
 --   push-at              what holds of the elements of a list, and of one more
 --   journal-facts        its elements are in the first v variables, are not zero, and generate the ideal of the polynomials given
-use Rattle.std.proofs.Common.{◌≡◌, ◌⊎◌, ℕ, zero, suc, ◌+◌, ◌-◌, ◌<◌, ◌≤◌, Bool, true, false, not, cond, List, [], ◌∷◌, ◌++◌, length, length-append, get_or, refl, sym, ◌∙◌, ap, ap₂, subst, inl, inr, arith, IsTrue, true≢false}
-use Rattle.std.specs.Prelude.{IsFalse, Option, Some, None, filter}
-use Rattle.std.proofs.lemmas.List.{get_or_append_left, get_or-append-add}
-use Rattle.std.proofs.lemmas.Bool.{cases_Bool, cases_lt}
+use Rattle.std.proofs.Common.{◌≡◌, ◌⊎◌, ℕ, zero, suc, ◌<◌, Bool, true, false, not, cond, List, [], ◌∷◌, ◌++◌, length, get_or, refl, sym, ◌∙◌, ap, subst, inl, inr, arith, IsTrue}
+use Rattle.std.specs.Prelude.{IsFalse, Some, None}
+use Rattle.std.proofs.lemmas.List.{get_or_append_left}
 use Rattle.std.specs.declared.cmp.Ordering.{Ordering}
 use Rattle.rinv_algebra.specs.Ring.{RingOps, RingLaws, FieldLaws, IsSame}
 use Rattle.rinv_algebra.specs.Polynomial.{Term, Polynomial, poly_ops, same, is_zero, term_product}
 use Rattle.rinv_algebra.specs.Ideal.{IsMember, combination}
 use Rattle.rinv_algebra.specs.Leading.{multiplier, s_polynomial}
 use Rattle.rinv_algebra.proofs.PolynomialLaws.{poly_laws}
-use Rattle.rinv_theory.proofs.CRing.{CRing, add_neg}
+use Rattle.rinv_theory.proofs.CRing.{CRing}
 use Rattle.rinv_theory.proofs.Solver.{ring, reading}
-use Rattle.rinv_theory.proofs.Classes.{Class, class, class_sound, class-add, class-mul, class-neg, class-one, class-zero}
+use Rattle.rinv_theory.proofs.Classes.{class_sound, class-neg, class-one, class-zero}
 use Rattle.rinv_theory.proofs.Polynomials.{poly_ring, class-term}
 use Rattle.rinv_theory.proofs.Members.{poly, member_none}
 use Rattle.rinv_groebner.specs.Orders.{OrdersMonomials}
-use Rattle.rinv_groebner.specs.Division.{Step, quotients, AreSame, IsDivision}
-use Rattle.rinv_groebner.specs.Journal.{Entry, Kind, reduced, coprime as coprime_kind, chain, nonzeros, IsOpen, IsEntry, Makes, LeavesRest, Journal}
+use Rattle.rinv_groebner.specs.Division.{Step, quotients, AreSame}
+use Rattle.rinv_groebner.specs.Journal.{Entry, Kind, reduced, coprime as coprime_kind, chain, nonzeros, Makes, LeavesRest, Journal}
 use Rattle.rinv_groebner.proofs.Compared.{InFirst, first-same}
-use Rattle.rinv_groebner.proofs.ListElements.{AllFirst, Place, nil_first}
+use Rattle.rinv_groebner.proofs.ListElements.{AllFirst, nil_first}
 use Rattle.rinv_groebner.proofs.Reducible.{is_zero-same, past_end}
 use Rattle.rinv_groebner.proofs.MembersOfLists.{member-same, member_plus, member_times, member_generator, member_trans, combination_member}
 use Rattle.rinv_groebner.proofs.StepClasses.{class-term_product, class-difference, step-first}

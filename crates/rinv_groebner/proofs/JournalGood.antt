@@ -2,38 +2,33 @@
 --   listed-append        a pair in a journal with one entry more
 --   front_at             an element of a front of a list
 --   zero-good, element-good    a pair whose S-polynomial, divided by a front of the list, leaves zero or an element of the list
-use Rattle.std.proofs.Common.{◌≡◌, ◌⊎◌, ℕ, ◌<◌, Bool, true, false, List, [], ◌∷◌, ◌++◌, length, length-append, append_assoc, append-nil, map, get_or, refl, sym, ◌∙◌, ap, ap₂, subst, subst₂, inl, inr, arith, IsTrue, true≢false}
-use Rattle.std.specs.Prelude.{IsFalse, ◌||◌, Option, Some, None}
-use Rattle.std.specs.List.{list_any}
+use Rattle.std.proofs.Common.{◌≡◌, ◌⊎◌, ℕ, ◌<◌, Bool, true, false, List, [], ◌∷◌, ◌++◌, length, length-append, get_or, sym, ◌∙◌, ap, ap₂, subst, inl, inr, arith, IsTrue, true≢false}
+use Rattle.std.specs.Prelude.{IsFalse, ◌||◌}
 use Rattle.std.specs.declared.cmp.Ordering.{Ordering}
 use Rattle.std.proofs.lemmas.Bool.{cases_Bool}
 use Rattle.std.proofs.lemmas.Bool.Decides.{nat_tests}
-use Rattle.std.proofs.lemmas.List.{map-append, get_or_append_left, get_or-append-add}
+use Rattle.std.proofs.lemmas.List.{map-append, get_or_append_left}
 use Rattle.std.proofs.lemmas.List.Folds.{list_any-append}
 use Rattle.rinv_algebra.specs.Ring.{RingOps, RingLaws, FieldLaws}
-use Rattle.rinv_algebra.specs.Monomial.{divides, lcm, coprime}
 use Rattle.rinv_algebra.specs.Polynomial.{Polynomial, poly_ops, is_zero}
 use Rattle.rinv_algebra.specs.Leading.{leading_monomial, s_polynomial}
 use Rattle.rinv_algebra.proofs.PolynomialLaws.{poly_laws}
-use Rattle.rinv_theory.proofs.CRing.{CRing, add_zero}
 use Rattle.rinv_theory.proofs.Classes.{Class, class, class_ring, class_sound, class-zero}
 use Rattle.rinv_theory.proofs.Monoid.{Monomial, monomial, monomials}
-use Rattle.rinv_theory.proofs.TermRing.{TermRing}
 use Rattle.rinv_theory.proofs.Polynomials.{polynomials, poly_ring, term_at}
 use Rattle.rinv_theory.proofs.Of.{Of, of-weaken}
 use Rattle.rinv_theory.proofs.Variables.{IsFront}
 use Rattle.rinv_groebner.specs.Orders.{OrdersMonomials}
-use Rattle.rinv_groebner.specs.Division.{IsDivision}
-use Rattle.rinv_groebner.specs.Settled.{is_listed, lead_at, lcm_at, AreCoprime, HasChain}
-use Rattle.rinv_groebner.specs.Journal.{Entry, Kind, reduced, coprime as coprime_kind, chain, pairs_of, IsEntry, Makes, LeavesRest, Journal}
+use Rattle.rinv_groebner.specs.Settled.{is_listed, lead_at, lcm_at}
+use Rattle.rinv_groebner.specs.Journal.{Entry, pairs_of, LeavesRest}
 use Rattle.rinv_groebner.proofs.Multiples.{Multiples, multiples-add, multiples-among, multiples-weaken, multiples_one}
 use Rattle.rinv_groebner.proofs.Elements.{IsBelow}
-use Rattle.rinv_groebner.proofs.Pairs.{IsGood, good_sym}
+use Rattle.rinv_groebner.proofs.Pairs.{IsGood}
 use Rattle.rinv_groebner.proofs.Compared.{all_monomials, InFirst, of_passes, class_leads}
 use Rattle.rinv_groebner.proofs.ListElements.{AllFirst, Place, list_elements, nil_first}
 use Rattle.rinv_groebner.proofs.Reducible.{past_end, place-inside}
 use Rattle.rinv_groebner.proofs.GoodPairs.{is_below, below-from, is_below-down}
-use Rattle.rinv_groebner.proofs.PairsOfLists.{s_polynomial-passes, quotients-good, coprime-good, chain-good}
+use Rattle.rinv_groebner.proofs.PairsOfLists.{s_polynomial-passes, quotients-good}
 use Rattle.rinv_groebner.proofs.SettledLists.{pair_cases}
 use Rattle.rinv_groebner.proofs.Paths.{Path, steps_path}
 use Rattle.rinv_groebner.proofs.StepMultiples.{Taken, path-of, path-multiples}

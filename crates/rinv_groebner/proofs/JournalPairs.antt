@@ -1,15 +1,15 @@
 -- The pairs that stand in a journal are good in the list that it makes, and in each list that begins with it.
 --   journal-good         the pairs of a journal
-use Rattle.std.proofs.Common.{◌≡◌, ◌⊎◌, ℕ, ◌<◌, List, [], ◌∷◌, ◌++◌, length, length-append, append_assoc, get_or, refl, sym, ◌∙◌, ap, ap₂, ◌+◌, subst, subst₂, inl, inr, arith, IsTrue, true≢false}
-use Rattle.std.specs.Prelude.{IsFalse, Option, Some, None}
+use Rattle.std.proofs.Common.{◌≡◌, ◌⊎◌, ℕ, ◌<◌, List, [], ◌∷◌, ◌++◌, length, append_assoc, get_or, sym, ◌∙◌, ap, ap₂, ◌+◌, subst₂, inl, inr, arith, IsTrue, true≢false}
+use Rattle.std.specs.Prelude.{IsFalse, Some, None}
 use Rattle.std.proofs.lemmas.List.{get_or-append-add}
 use Rattle.std.specs.declared.cmp.Ordering.{Ordering}
 use Rattle.rinv_algebra.specs.Ring.{RingOps, RingLaws, FieldLaws}
 use Rattle.rinv_algebra.specs.Monomial.{divides, lcm, coprime}
-use Rattle.rinv_algebra.specs.Polynomial.{Polynomial, poly_ops, is_zero}
+use Rattle.rinv_algebra.specs.Polynomial.{Polynomial, is_zero}
 use Rattle.rinv_groebner.specs.Orders.{OrdersMonomials}
-use Rattle.rinv_groebner.specs.Settled.{is_listed, lead_at, lcm_at, AreCoprime, HasChain}
-use Rattle.rinv_groebner.specs.Journal.{Entry, Kind, reduced, coprime as coprime_kind, chain, pairs_of, IsEntry, Makes, LeavesRest, Journal}
+use Rattle.rinv_groebner.specs.Settled.{is_listed, AreCoprime, HasChain}
+use Rattle.rinv_groebner.specs.Journal.{Entry, Kind, reduced, coprime as coprime_kind, chain, pairs_of, Makes, Journal}
 use Rattle.rinv_groebner.proofs.Pairs.{IsGood, good_sym}
 use Rattle.rinv_groebner.proofs.ListElements.{AllFirst, Place, list_elements}
 use Rattle.rinv_groebner.proofs.PairsOfLists.{coprime-good, chain-good}

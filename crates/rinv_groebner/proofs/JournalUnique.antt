@@ -1,8 +1,8 @@
 -- The list that a journal makes is determined, by the coefficients of the polynomials given.
 --   s_polynomial-same    S-polynomials of polynomials that are the same
 --   journal_unique       the lists of one journal are the same, place by place
-use Rattle.std.proofs.Common.{◌≡◌, ℕ, zero, suc, ◌+◌, ◌<◌, Bool, true, false, not, cond, List, [], ◌∷◌, ◌++◌, length, length-append, get_or, refl, sym, ◌∙◌, ap, ap₂, ◌-◌, max, drop, subst, subst₂, arith, IsTrue, true≢false}
-use Rattle.std.specs.Prelude.{IsFalse, Option, Some, None}
+use Rattle.std.proofs.Common.{◌≡◌, ℕ, suc, ◌<◌, Bool, true, false, not, cond, List, [], ◌∷◌, ◌++◌, length, length-append, get_or, refl, sym, ◌∙◌, ap, ap₂, ◌-◌, max, drop, subst, subst₂, arith, true≢false}
+use Rattle.std.specs.Prelude.{IsFalse, Some, None}
 use Rattle.std.specs.declared.cmp.Ordering.{Ordering}
 use Rattle.rinv_algebra.specs.Ring.{RingOps, RingLaws, FieldLaws, IsSame}
 use Rattle.rinv_algebra.specs.Monomial.{quotient, lcm}
@@ -10,8 +10,6 @@ use Rattle.rinv_algebra.specs.Polynomial.{Polynomial, poly_ops, is_zero, term_pr
 use Rattle.rinv_algebra.specs.Leading.{leading_monomial, leading_coefficient, multiplier, s_polynomial}
 use Rattle.rinv_algebra.proofs.MonomialLaws.{same_at, same_from}
 use Rattle.rinv_algebra.proofs.PolynomialLaws.{poly_laws}
-use Rattle.rinv_algebra.proofs.RingFacts as facts
-use Rattle.rinv_theory.proofs.CRing.{CRing}
 use Rattle.rinv_theory.proofs.Classes.{class, class_sound, class_exact}
 use Rattle.rinv_theory.proofs.Monoid.{monomial, monomial_sound, monomial_exact}
 use Rattle.rinv_theory.proofs.Polynomials.{polynomials, poly_ring, term_at, class-coefficient}

@@ -52,3 +52,4 @@ pub mod JournalBasis
 pub mod JournalUnique
 pub mod PairLists
 pub mod JournalExists
+pub mod Permuted

@@ -3,16 +3,15 @@
 --   member_generator     an element of the list
 --   member_trans         a member of the ideal of members
 --   members_at, members_from    lists of members, place by place
-use Rattle.std.proofs.Common.{◌≡◌, ℕ, zero, suc, ◌+◌, List, [], ◌∷◌, ◌++◌, length, map, get_or, refl, sym, ◌∙◌, ap, ap₂, arith}
-use Rattle.std.specs.List.{AllByRecursion}
+use Rattle.std.proofs.Common.{◌≡◌, ℕ, zero, suc, ◌+◌, List, [], ◌∷◌, ◌++◌, map, get_or, refl, sym, ◌∙◌, ap, ap₂, arith}
 use Rattle.std.proofs.lemmas.List.{length-map}
-use Rattle.rinv_algebra.specs.Ring.{RingOps, RingLaws, IsSame}
+use Rattle.rinv_algebra.specs.Ring.{RingOps, RingLaws}
 use Rattle.rinv_algebra.specs.Polynomial.{Polynomial, poly_ops, product}
 use Rattle.rinv_algebra.specs.Ideal.{combination, IsMember}
 use Rattle.rinv_algebra.proofs.PolynomialLaws.{poly_laws}
 use Rattle.rinv_theory.proofs.CRing.{CRing, add_zero, mul_zero}
 use Rattle.rinv_theory.proofs.Solver.{ring, reading}
-use Rattle.rinv_theory.proofs.Classes.{Class, class, class_sound, class_exact, class-add, class-mul, class-zero, class-one}
+use Rattle.rinv_theory.proofs.Classes.{class_sound, class_exact, class-add, class-mul, class-zero, class-one}
 use Rattle.rinv_theory.proofs.Polynomials.{poly_ring}
 use Rattle.rinv_theory.proofs.Members.{generator, poly, member_none, member_more, combination-cons}
 use Rattle.rinv_groebner.specs.Basis.{AreMembers}

@@ -2,7 +2,7 @@
 --   step-same            a step depends on the coefficients alone
 --   Path hs f steps left    the steps take f to what is left
 --   path_steps, steps_path    the two are one
-use Rattle.std.proofs.Common.{◌≡◌, ℕ, List, [], ◌∷◌, ◌++◌, get_or, sym, ◌∙◌, IsTrue}
+use Rattle.std.proofs.Common.{ℕ, List, [], ◌∷◌, ◌++◌, get_or, sym, ◌∙◌}
 use Rattle.std.specs.declared.cmp.Ordering.{Ordering}
 use Rattle.rinv_algebra.specs.Ring.{RingOps, RingLaws, IsSame}
 use Rattle.rinv_algebra.specs.Polynomial.{Polynomial, poly_ops, opposite, term_product}

@@ -13,25 +13,25 @@ use Rattle.std.specs.declared.cmp.Ordering.TheVariants.{Less, Equal, Greater}
 use Rattle.std.proofs.lemmas.Bool.{cases_Bool, cases_order}
 use Rattle.std.proofs.lemmas.Bool.Decides.{nat_tests}
 use Rattle.rinv_algebra.specs.Ring.{RingOps, RingLaws, FieldLaws}
-use Rattle.rinv_algebra.specs.Monomial.{monomial_product, divides, lcm, coprime}
-use Rattle.rinv_algebra.specs.Polynomial.{Polynomial, poly_ops, is_zero, product}
+use Rattle.rinv_algebra.specs.Monomial.{monomial_product}
+use Rattle.rinv_algebra.specs.Polynomial.{Polynomial, poly_ops, is_zero}
 use Rattle.rinv_algebra.specs.Normal.{is_in_variables}
 use Rattle.rinv_algebra.specs.Ideal.{combination}
-use Rattle.rinv_algebra.specs.Leading.{leading_monomial, s_polynomial}
+use Rattle.rinv_algebra.specs.Leading.{leading_monomial}
 use Rattle.rinv_algebra.proofs.PolynomialLaws.{poly_laws}
 use Rattle.rinv_algebra.proofs.Same.{both}
-use Rattle.rinv_theory.proofs.CRing.{CRing, zero_mul}
-use Rattle.rinv_theory.proofs.Classes.{Class, class, class_sound, class-mul, class-zero}
+use Rattle.rinv_theory.proofs.CRing.{zero_mul}
+use Rattle.rinv_theory.proofs.Classes.{Class, class, class_sound, class-zero}
 use Rattle.rinv_theory.proofs.Monoid.{Monomial, monomial, monomials, monomial-mul}
 use Rattle.rinv_theory.proofs.Polynomials.{polynomials, poly_ring}
-use Rattle.rinv_theory.proofs.Of.{Of, of-weaken}
+use Rattle.rinv_theory.proofs.Of.{of-weaken}
 use Rattle.rinv_theory.proofs.Members.{combination-cons}
 use Rattle.rinv_theory.proofs.Places.{front-mul}
 use Rattle.rinv_theory.proofs.Variables.{IsFront, in_variables-of}
 use Rattle.rinv_theory.proofs.Leads.{IsUpTo, lead-of, upto-from, upto-below, mul-upto}
 use Rattle.rinv_groebner.specs.Orders.{OrdersMonomials}
 use Rattle.rinv_groebner.specs.Basis.{AreNonzero, IsGroebnerBasis}
-use Rattle.rinv_groebner.specs.Settled.{is_listed, lead_at, lcm_at, stays_below, HasQuotients, HasChain, AreCoprime, AreSettled, AreAllListed}
+use Rattle.rinv_groebner.specs.Settled.{is_listed, lcm_at, stays_below, HasQuotients, HasChain, AreCoprime, AreSettled, AreAllListed}
 use Rattle.rinv_groebner.proofs.Multiples.{Multiples, multiples-add, multiples-element}
 use Rattle.rinv_groebner.proofs.Elements.{IsBelow}
 use Rattle.rinv_groebner.proofs.Pairs.{IsGood, good_self, good_sym}

@@ -1,5 +1,5 @@
 -- Journals of Buchberger's algorithm: what was done with which pair, in turn.
-use Rattle.std.specs.Prelude.{◌≡◌, ℕ, ◌-◌, ◌^◌, ◌<◌, min, Bool, not, List, [], ◌∷◌, ◌++◌, map, filter, length, get_or, IsTrue, IsFalse, Option, Some, None}
+use Rattle.std.specs.Prelude.{◌≡◌, ℕ, ◌-◌, ◌^◌, ◌<◌, min, not, List, [], ◌∷◌, ◌++◌, map, filter, length, get_or, IsTrue, IsFalse, Option, Some, None}
 use Rattle.std.specs.declared.cmp.Ordering.{Ordering}
 use Rattle.rinv_algebra.specs.Ring.{RingOps}
 use Rattle.rinv_algebra.specs.Polynomial.{Polynomial, is_zero}
