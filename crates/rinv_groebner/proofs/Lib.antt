@@ -11,7 +11,7 @@ pub mod Divisors
 pub mod Bases
 pub mod Minimal
 pub mod Ascending
-pub mod Descent
+pub mod FullDivisors
 pub mod FirstVariables
 pub mod Greatest
 pub mod LeadingMonomials
@@ -52,3 +52,4 @@ pub mod JournalBasis
 pub mod JournalUnique
 pub mod PairLists
 pub mod JournalExists
+pub mod Permuted

@@ -89,4 +89,4 @@ module _ {E : Type 0} (o : RingOps E) (l : RingLaws o) (field : FieldLaws o) (cm
       let (steps, rest, d) = division_exists o l field cmp v order (remove ks k) (first_from o l v (remove ks k) (λ h j. spread.in_first h (has-remove ks k j))) (get_or ks k []) (spread.in_first (get_or ks k []) (has_at [] ks k inside)) in
       let r = remainder o l cmp v order fs ks spread members k inside steps rest d in
       let (y, h) = lead-inverse o l field cmp v order rest r.nonzero in
-      (scale o y rest, record { steps = steps; rest = rest; division = d; monic = record { factor = y; inverse = l.same_trans _ _ _ (l.mul_comm _ _) h; scaled = (poly_laws o l).same_refl _ } })
+      (scale o y rest, record { steps = steps; rest = rest; division = d; monic = record { factor = y; inverse = l.same_trans (o.mul y (leading_coefficient o cmp rest)) (o.mul (leading_coefficient o cmp rest) y) o.one (l.mul_comm y (leading_coefficient o cmp rest)) h; scaled = (poly_laws o l).same_refl (scale o y rest) } })

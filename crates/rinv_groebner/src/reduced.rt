@@ -3,6 +3,7 @@
 
 ghost use Rattle.std.specs.Prelude.{◌↔◌, ℕ, List, ◌++◌, take, IsTrue, IsFalse};
 ghost use Rattle.std.specs.List.{sum};
+ghost use Rattle.std.specs.List.Sorted.{IsPermutation};
 ghost use Rattle.std.specs.declared.cmp.Ordering.{Ordering};
 ghost use Rattle.rinv_algebra.specs.Ring.{RingOps, RingLaws, FieldLaws, IsSame};
 ghost use Rattle.rinv_algebra.specs.Order.{block_order};
@@ -38,7 +39,8 @@ pub fn normal_forms<E>()
 {}
 
 /// A Gröbner basis without zero makes a reduced Gröbner basis of its ideal, when the elements are kept whose leading monomials no other
-/// properly divides and no earlier element has, each is divided by the others and made monic. What is made is determined.
+/// properly divides and no earlier element has, each is divided by the others and made monic. What is made is determined, and may be put
+/// into any order.
 pub fn made_basis<E>()
     ensures exists { (o : RingOps E) (cmp : List ℕ → List ℕ → Ordering) (v : ℕ) (fs hs : List (Polynomial E)) →
         RingLaws o → FieldLaws o → OrdersMonomials cmp v → AreInVariables v hs → AreNonzero o hs → IsGroebnerBasis o cmp v fs hs →
@@ -49,6 +51,8 @@ pub fn made_basis<E>()
     ensures determined { (o : RingOps E) (cmp : List ℕ → List ℕ → Ordering) (v : ℕ) (fs hs gs others : List (Polynomial E)) →
         RingLaws o → FieldLaws o → OrdersMonomials cmp v → AreInVariables v hs → AreNonzero o hs → IsGroebnerBasis o cmp v fs hs →
         AreMade o cmp hs gs → AreMade o cmp hs others → AreSame o gs others }
+    ensures in_any_order { (o : RingOps E) (cmp : List ℕ → List ℕ → Ordering) (v : ℕ) (fs gs hs : List (Polynomial E)) →
+        RingLaws o → IsPermutation gs hs → IsReducedGroebnerBasis o cmp v fs gs → IsReducedGroebnerBasis o cmp v fs hs }
 {}
 
 /// Two reduced Gröbner bases of one ideal, both with ascending leading monomials, are the same, element by element.
