@@ -57,7 +57,8 @@ count-less (suc v) d p q (x ∷ m) h len low off on =
     (omega arith)
     (count-less v d (λ e. p (x ∷ e)) (λ e. q (x ∷ e)) m (λ e. h (x ∷ e)) (omega arith) (omega arith) off on)
 
-is-less : (c : Ordering) → is_lt c ≡ true → c ≡ Less
+-- what tests as less is less
+pub is-less : (c : Ordering) → is_lt c ≡ true → c ≡ Less
 is-less Less e = refl
 is-less Equal e = absurd (true≢false (sym e))
 is-less Greater e = absurd (true≢false (sym e))

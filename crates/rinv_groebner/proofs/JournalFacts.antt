@@ -6,14 +6,14 @@ use Rattle.std.specs.Prelude.{IsFalse, Some, None}
 use Rattle.std.proofs.lemmas.List.{get_or_append_left}
 use Rattle.std.specs.declared.cmp.Ordering.{Ordering}
 use Rattle.rinv_algebra.specs.Ring.{RingOps, RingLaws, FieldLaws, IsSame}
-use Rattle.rinv_algebra.specs.Polynomial.{Term, Polynomial, poly_ops, same, is_zero, term_product}
+use Rattle.rinv_algebra.specs.Polynomial.{Polynomial, poly_ops, same, is_zero, term_product, difference}
 use Rattle.rinv_algebra.specs.Ideal.{IsMember, combination}
 use Rattle.rinv_algebra.specs.Leading.{multiplier, s_polynomial}
 use Rattle.rinv_algebra.proofs.PolynomialLaws.{poly_laws}
 use Rattle.rinv_theory.proofs.CRing.{CRing}
 use Rattle.rinv_theory.proofs.Solver.{ring, reading}
-use Rattle.rinv_theory.proofs.Classes.{class_sound, class-neg, class-one, class-zero}
-use Rattle.rinv_theory.proofs.Polynomials.{poly_ring, class-term}
+use Rattle.rinv_theory.proofs.Classes.{class_sound, class-zero}
+use Rattle.rinv_theory.proofs.Polynomials.{poly_ring}
 use Rattle.rinv_theory.proofs.Members.{poly, member_none}
 use Rattle.rinv_groebner.specs.Orders.{OrdersMonomials}
 use Rattle.rinv_groebner.specs.Division.{Step, quotients, AreSame}
@@ -21,8 +21,9 @@ use Rattle.rinv_groebner.specs.Journal.{Entry, Kind, reduced, coprime as coprime
 use Rattle.rinv_groebner.proofs.Compared.{InFirst, first-same}
 use Rattle.rinv_groebner.proofs.ListElements.{AllFirst, nil_first}
 use Rattle.rinv_groebner.proofs.Reducible.{is_zero-same, past_end}
-use Rattle.rinv_groebner.proofs.MembersOfLists.{member-same, member_plus, member_times, member_generator, member_trans, combination_member}
-use Rattle.rinv_groebner.proofs.StepClasses.{class-term_product, class-difference, step-first}
+use Rattle.rinv_groebner.proofs.MemberLists.{member-term, member-subtract}
+use Rattle.rinv_groebner.proofs.MembersOfLists.{member-same, member_generator, member_trans, combination_member}
+use Rattle.rinv_groebner.proofs.StepClasses.{class-difference, step-first}
 use Rattle.rinv_groebner.proofs.StepSums.{path-sum}
 use Rattle.rinv_groebner.proofs.Paths.{Path, steps_path}
 use Rattle.rinv_groebner.proofs.PairsOfLists.{s_polynomial-first}
@@ -80,33 +81,23 @@ module _ {E : Type 0} (o : RingOps E) where
       go true (inr x) = inr x
       go false (inr (k, e)) = inr (suc k, e)
 
-module _ {E : Type 0} (o : RingOps E) (l : RingLaws o) where
-  minus_one : {R : Type 0} (𝓡 : CRing R) (x : R) → 𝓡.mul (𝓡.neg 𝓡.one) x ≡ 𝓡.neg x
-  minus_one 𝓡 x = ring 𝓡 (x ∷ []) (search reading depth 30) refl
+rest_alone : {R : Type 0} (𝓡 : CRing R) (s c r : R) → s ≡ 𝓡.add c r → r ≡ 𝓡.add s (𝓡.neg c)
+rest_alone 𝓡 s c r e = sym (ap (λ x. 𝓡.add x (𝓡.neg c)) e ∙ ring 𝓡 (c ∷ r ∷ []) (search reading depth 30) refl)
 
-  rest_alone : {R : Type 0} (𝓡 : CRing R) (s c r : R) → s ≡ 𝓡.add c r → r ≡ 𝓡.add s (𝓡.neg c)
-  rest_alone 𝓡 s c r e = sym (ap (λ x. 𝓡.add x (𝓡.neg c)) e ∙ ring 𝓡 (c ∷ r ∷ []) (search reading depth 30) refl)
+module _ {E : Type 0} (o : RingOps E) (l : RingLaws o) (fs : List (Polynomial E)) (cmp : List ℕ → List ℕ → Ordering) where
+  -- the S-polynomial of two elements is a member
+  s_polynomial_member : (i j : ℕ) → IsMember o fs (s_polynomial o cmp (get_or fs i []) (get_or fs j []))
+  unfolding s_polynomial
+  s_polynomial_member i j =
+      let part : (i j : ℕ) → IsMember o fs (term_product o (multiplier o cmp (get_or fs i []) (get_or fs j [])) (get_or fs i [])) = λ i j. member-term o l fs (multiplier o cmp (get_or fs i []) (get_or fs j [])) (get_or fs i []) (member_generator o l fs i) in
+      member-subtract o l fs (term_product o (multiplier o cmp (get_or fs i []) (get_or fs j [])) (get_or fs i [])) (term_product o (multiplier o cmp (get_or fs j []) (get_or fs i [])) (get_or fs j [])) (part i j) (part j i)
 
-  module _ (fs : List (Polynomial E)) where
-    -- a difference of members
-    pub member_minus : (f g h : Polynomial E) → poly o l h ≡ (poly_ring o l).add (poly o l f) ((poly_ring o l).neg (poly o l g)) → IsMember o fs f → IsMember o fs g → IsMember o fs h
-    member_minus f g h e m n = member_plus o l fs f ((poly_ops o).neg g) h (e ∙ ap ((poly_ring o l).add (poly o l f)) (sym (class-neg (poly_ops o) (poly_laws o l) g))) m
-        (member_times o l fs ((poly_ops o).neg (poly_ops o).one) g ((poly_ops o).neg g) (class-neg (poly_ops o) (poly_laws o l) g ∙ sym (minus_one (poly_ring o l) _) ∙ ap (λ x. (poly_ring o l).mul x (poly o l g)) (sym (class-neg (poly_ops o) (poly_laws o l) (poly_ops o).one ∙ ap (poly_ring o l).neg (class-one (poly_ops o) (poly_laws o l))))) n)
-
-    term_member : (t : Term E) (k : ℕ) → IsMember o fs (term_product o t (get_or fs k []))
-    term_member (a, c) k = member_times o l fs ((a, c) ∷ []) (get_or fs k []) _ (class-term_product o l (a, c) (get_or fs k []) ∙ ap (λ x. (poly_ring o l).mul x (poly o l (get_or fs k []))) (sym (class-term o l c a))) (member_generator o l fs k)
-
-    -- the S-polynomial of two elements is a member
-    s_polynomial_member : (cmp : List ℕ → List ℕ → Ordering) (i j : ℕ) → IsMember o fs (s_polynomial o cmp (get_or fs i []) (get_or fs j []))
-    unfolding s_polynomial
-    s_polynomial_member cmp i j =
-        let s = multiplier o cmp (get_or fs i []) (get_or fs j []) in
-        let t = multiplier o cmp (get_or fs j []) (get_or fs i []) in
-        member_minus (term_product o s (get_or fs i [])) (term_product o t (get_or fs j [])) _ (class-difference o l (term_product o s (get_or fs i [])) (term_product o t (get_or fs j []))) (term_member s i) (term_member t j)
-
-    -- what division of a member leaves is a member
-    pub left_member : (cmp : List ℕ → List ℕ → Ordering) {f left : Polynomial E} {steps : List (Step E)} → Path o cmp fs f steps left → IsMember o fs f → IsMember o fs left
-    left_member cmp {f} {left} {steps} p m = member_minus f (combination o (quotients (length fs) steps) fs) left (rest_alone (poly_ring o l) _ _ _ (path-sum o l cmp fs p)) m (combination_member o l fs (quotients (length fs) steps) fs (member_generator o l fs))
+  -- what division of a member leaves is a member
+  left_member : {f left : Polynomial E} {steps : List (Step E)} → Path o cmp fs f steps left → IsMember o fs f → IsMember o fs left
+  left_member {f} {left} {steps} p m =
+      let multiples = combination o (quotients (length fs) steps) fs in
+      member-same o l fs (difference o f multiples) left (rest_alone (poly_ring o l) _ _ _ (path-sum o l cmp fs p) ∙ sym (class-difference o l f multiples))
+      (member-subtract o l fs f multiples m (combination_member o l fs (quotients (length fs) steps) fs (member_generator o l fs)))
 
 module _ {E : Type 0} (o : RingOps E) (l : RingLaws o) (field : FieldLaws o) (cmp : List ℕ → List ℕ → Ordering) (v : ℕ) (order : OrdersMonomials cmp v) where
   path-first : {hs : List (Polynomial E)} → AllFirst o l v hs → {f left : Polynomial E} {steps : List (Step E)} → Path o cmp hs f steps left → InFirst o l v f → InFirst o l v left

@@ -7,7 +7,7 @@ use Rattle.std.specs.Prelude.{◌==◌}
 use Rattle.std.specs.List.{swap}
 use Rattle.std.specs.List.Sorted.{IsPermutation, SwapsInRange, apply_swaps}
 use Rattle.std.specs.declared.cmp.Ordering.{Ordering}
-use Rattle.std.proofs.lemmas.Bool.{cases_Bool, eqb-true}
+use Rattle.std.proofs.lemmas.Bool.{eqb-true}
 use Rattle.std.proofs.lemmas.Bool.Decides.{nat_tests}
 use Rattle.std.proofs.lemmas.Grind.{get_or-set_at}
 use Rattle.std.proofs.lemmas.List.{length-set, get_or-set_other}
@@ -16,8 +16,7 @@ use Rattle.rinv_algebra.specs.Ring.{RingOps, RingLaws, IsSame}
 use Rattle.rinv_algebra.specs.Polynomial.{Polynomial, has_monomial}
 use Rattle.rinv_algebra.specs.Ideal.{IsMember}
 use Rattle.rinv_algebra.specs.Leading.{leading_monomial, leading_coefficient}
-use Rattle.rinv_groebner.specs.Division.{is_reducible, lead_divides}
-use Rattle.rinv_groebner.specs.Basis.{AreMembers}
+use Rattle.rinv_groebner.specs.Division.{lead_divides}
 use Rattle.rinv_groebner.specs.Reduced.{IsReducedGroebnerBasis}
 use Rattle.rinv_groebner.proofs.IdealBases.{all_at, all_from}
 use Rattle.rinv_groebner.proofs.MembersOfLists.{member_generator}
