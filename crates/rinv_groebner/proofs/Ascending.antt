@@ -52,6 +52,7 @@ module _ {A : Type 0} (Less : A → A → Type 0) (trans : (a b c : A) → Less 
   not_in : {x : A} {xs : List A} → Bounds Less x xs → Has x xs → ⊥
   not_in {x} b h = irreflexive x (bound-has b h)
 
+  -- each element of the one is in the other
   abbrev pub Within : List A → List A → Type 0
   Within xs ys = (z : A) → Has z xs → ∥ Has z ys ∥₁
 
