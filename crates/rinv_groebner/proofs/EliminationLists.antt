@@ -2,7 +2,7 @@
 --   free_lead            where the leading monomial is free of the first variables, each monomial is
 --   part_basis           the part of a Gröbner basis that is free is one of the free polynomials of the ideal
 --   part-monic, part-apart, part-ascends    what a reduced basis has, its part has
-use Rattle.std.proofs.Common.{◌≡◌, ℕ, zero, suc, ◌≤◌, ◌<◌, Bool, true, false, cond, List, [], ◌∷◌, length, take, sum, get_or, filter, refl, sym, ◌∙◌, ap, subst, inl, inr, arith, IsTrue, true≢false}
+use Rattle.std.proofs.Common.{◌≡◌, ℕ, zero, suc, ◌≤◌, ◌<◌, Bool, true, false, not, cond, List, [], ◌∷◌, length, take, sum, get_or, filter, refl, sym, ◌∙◌, ap, subst, inl, inr, arith, IsTrue, true≢false}
 use Rattle.std.specs.Prelude.{IsFalse, ◌==◌, nat_lt}
 use Rattle.std.specs.List.{AllPairs}
 use Rattle.std.specs.declared.cmp.Ordering.{Ordering}
@@ -15,9 +15,10 @@ use Rattle.std.proofs.Math.Seq.{take-nil}
 use Rattle.std.proofs.lemmas.List.Sums.{sum_by-cons}
 use Rattle.rinv_algebra.specs.Ring.{RingOps, RingLaws, FieldLaws, IsSame}
 use Rattle.rinv_algebra.specs.Monomial.{divides}
-use Rattle.rinv_algebra.specs.Polynomial.{Polynomial, has_monomial, is_zero}
+use Rattle.rinv_algebra.specs.Polynomial.{Polynomial, coefficient, has_monomial, is_zero}
 use Rattle.rinv_algebra.specs.Ideal.{IsMember}
 use Rattle.rinv_algebra.specs.Leading.{leading_monomial, leading_coefficient}
+use Rattle.rinv_algebra.proofs.Same.{same-coefficients}
 use Rattle.rinv_theory.proofs.Monoid.{monomial}
 use Rattle.rinv_theory.proofs.Variables.{in_variables-of}
 use Rattle.rinv_groebner.specs.Orders.{OrdersMonomials}
@@ -74,7 +75,13 @@ module _ {E : Type 0} (o : RingOps E) (l : RingLaws o) (cmp : List ℕ → List 
     pub free_lead : (f : Polynomial E) → IsFalse (is_zero o f) → IsTrue (is_free k (leading_monomial o cmp f)) → IsFreeOf o k f
     free_lead f n q m has = eliminates m (leading_monomial o cmp f) ((leading_monomial-leads o l cmp order.laws f n).greatest m has) q
 
-    module _ (field : FieldLaws o) (fs hs : List (Polynomial E)) (first : AllFirst o l v hs) (nonzero : (h : Polynomial E) → Has h hs → IsFalse (is_zero o h)) (basis : IsListBasis o l v cmp order fs hs) (members : AreMembers o fs hs) where
+    -- zero is free too
+    element_free : (h : Polynomial E) → IsTrue (is_free k (leading_monomial o cmp h)) → (b : Bool) → is_zero o h ≡ b → IsFreeOf o k h
+    unfolding coefficient
+    element_free h q true z m has = absurd (true≢false (sym has ∙ ap not (same-coefficients o l h [] z m)))
+    element_free h q false n m has = free_lead h n q m has
+
+    module _ (field : FieldLaws o) (fs hs : List (Polynomial E)) (first : AllFirst o l v hs) (basis : IsListBasis o l v cmp order fs hs) (members : AreMembers o fs hs) where
       abbrev free_lead_of : Polynomial E → Bool
       free_lead_of h = is_free k (leading_monomial o cmp h)
 
@@ -118,7 +125,7 @@ module _ {E : Type 0} (o : RingOps E) (l : RingLaws o) (cmp : List ℕ → List 
       -- the part of a Gröbner basis that is free is one of the free polynomials of the ideal
       pub part_basis : IsEliminationBasis o cmp v k fs ps
       part_basis = record {
-        free = all_from (IsFreeOf o k) [] ps (λ p inside. let m = has_at [] ps p inside in free_lead (get_or ps p []) (nonzero (get_or ps p []) (filter-in free_lead_of hs m)) (filter-passes free_lead_of hs m));
+        free = all_from (IsFreeOf o k) [] ps (λ p inside. element_free (get_or ps p []) (filter-passes free_lead_of hs (has_at [] ps p inside)) (is_zero o (get_or ps p [])) refl);
         members = part_members;
         generate = λ f h free m. part_generates f (in_variables-of o l v f h) free m (is_zero o f) refl;
         divided = λ f h free m n. part_reducible f (in_variables-of o l v f h) free m n;

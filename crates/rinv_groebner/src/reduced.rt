@@ -71,7 +71,7 @@ pub fn elimination<E>()
         RingLaws o → OrdersMonomials cmp v → Eliminates cmp k → IsFalse (is_zero o f) →
         IsTrue (is_free k (leading_monomial o cmp f)) → IsFreeOf o k f }
     ensures basis { (o : RingOps E) (cmp : List ℕ → List ℕ → Ordering) (v k : ℕ) (fs hs : List (Polynomial E)) →
-        RingLaws o → FieldLaws o → OrdersMonomials cmp v → Eliminates cmp k → AreInVariables v hs → AreNonzero o hs →
+        RingLaws o → FieldLaws o → OrdersMonomials cmp v → Eliminates cmp k → AreInVariables v hs →
         IsGroebnerBasis o cmp v fs hs → IsEliminationBasis o cmp v k fs (free_part o cmp k hs) }
     ensures monic { (o : RingOps E) (cmp : List ℕ → List ℕ → Ordering) (k : ℕ) (hs : List (Polynomial E)) →
         AreMonic o cmp hs → AreMonic o cmp (free_part o cmp k hs) }
