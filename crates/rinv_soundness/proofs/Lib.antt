@@ -2,3 +2,4 @@ pub mod FirstVariables
 pub mod Substituting
 pub mod GeneratorLists
 pub mod SystemForms
+pub mod Relabels
