@@ -3,3 +3,5 @@ pub mod Substituting
 pub mod GeneratorLists
 pub mod SystemForms
 pub mod Relabels
+pub mod PlaceFacts
+pub mod OverFractions
