@@ -57,10 +57,11 @@ front_more v w h m q = ap (front w) (sym q) ∙ front-front v w h m ∙ q
 
 module _ {K P : Type 0} {𝓚 : CRing K} (𝓣 : TermRing 𝓚 monomials P) where
   -- the variables past the first v are put 1
-  abbrev retract : ℕ → Hom 𝓣.ring 𝓣.ring
+  abbrev pub retract : ℕ → Hom 𝓣.ring 𝓣.ring
   retract v = relabel 𝓣 𝓣 (front v) (front-mul v)
 
-  retract-front : (v : ℕ) {x : P} → Of 𝓣 (IsFront v) x → (retract v).at x ≡ x
+  -- that changes no polynomial in the first v variables
+  pub retract-front : (v : ℕ) {x : P} → Of 𝓣 (IsFront v) x → (retract v).at x ≡ x
   retract-front v Of.none = hom-zero (retract v)
   retract-front v (Of.more c m q r) = (retract v).add _ _ ∙ ap₂ 𝓣.ring.add (relabel-term 𝓣 𝓣 (front v) (front-mul v) c m ∙ ap (𝓣.term c) q) (retract-front v r)
 

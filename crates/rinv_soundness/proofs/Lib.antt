@@ -8,3 +8,5 @@ pub mod OverFractions
 pub mod HasMultiples
 pub mod ExtendedIdeals
 pub mod ActionIdeals
+pub mod SymbolValues
+pub mod SpatialValues
