@@ -46,10 +46,12 @@ module _ {E : Type 0} (o : RingOps E) (l : RingLaws o) (field : FieldLaws o) (n 
   abbrev pub read : Inner o l field → Over o l field
   read h = (over o l field).at ((nested o l field n).at h)
 
-  read-add : (x y : Inner o l field) → read ((poly_ring o l).add x y) ≡ (over_ring o l field).add (read x) (read y)
+  -- it keeps sums
+  pub read-add : (x y : Inner o l field) → read ((poly_ring o l).add x y) ≡ (over_ring o l field).add (read x) (read y)
   read-add x y = ap (over o l field).at ((nested o l field n).add x y) ∙ (over o l field).add _ _
 
-  read-mul : (x y : Inner o l field) → read ((poly_ring o l).mul x y) ≡ (over_ring o l field).mul (read x) (read y)
+  -- and products
+  pub read-mul : (x y : Inner o l field) → read ((poly_ring o l).mul x y) ≡ (over_ring o l field).mul (read x) (read y)
   read-mul x y = ap (over o l field).at ((nested o l field n).mul x y) ∙ (over o l field).mul _ _
 
   -- a polynomial in the space's variables is a constant

@@ -10,3 +10,4 @@ pub mod ExtendedIdeals
 pub mod ActionIdeals
 pub mod SymbolValues
 pub mod SpatialValues
+pub mod Ratios
