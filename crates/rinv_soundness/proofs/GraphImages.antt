@@ -3,11 +3,9 @@
 --   unit_z, unit_x       at the unit both become P(x)
 --   crossed_member       P(Z)*Q(x) - P(x)*Q(Z) lies in the action's ideal for an invariant P/Q
 --   lasting              no multiple of a nonzero Q(Z) by a nonzero d lies in the ideal of the group and the graph
-use Rattle.std.proofs.Common.{◌≡◌, ℕ, ◌+◌, ◌*◌, ◌<◌, List, ◌++◌, refl, sym, ◌∙◌, ap, ap₂, subst, arith}
-use mathlib.Core.Logic.{∥∥₁_map}
+use Rattle.std.proofs.Common.{◌≡◌, ℕ, ◌+◌, ◌*◌, sym, ◌∙◌, ap, ap₂, subst, arith}
 use Rattle.rinv_algebra.specs.Residue.{residue_ops}
-use Rattle.rinv_algebra.specs.Polynomial.{poly_ops, product, past}
-use Rattle.rinv_algebra.proofs.ResidueField.{residue_field_laws}
+use Rattle.rinv_algebra.specs.Polynomial.{poly_ops}
 use Rattle.rinv_algebra.proofs.PolynomialLaws.{poly_laws}
 use Rattle.rinv_theory.proofs.CRing.{CRing, Hom, compose, hom-neg}
 use Rattle.rinv_theory.proofs.Classes.{Class, class, class-add, class-mul, class-neg}
@@ -17,14 +15,14 @@ use Rattle.rinv_theory.proofs.Ideals.{In}
 use Rattle.rinv_theory.proofs.Members.{generator, member-in}
 use Rattle.rinv_theory.proofs.Variables.{IsFront, in_variables-of, past-class}
 use Rattle.rinv_theory.proofs.Fields.{poly_domain}
-use Rattle.rinv_defs.specs.System.{System, Poly, group_count, space_count}
+use Rattle.rinv_defs.specs.System.{System, group_count, space_count}
 use Rattle.rinv_defs.specs.Laws.{L1, A1, LawHolds}
-use Rattle.rinv_defs.specs.Invariant.{Fraction, IsInvariant, at_moved_point, change}
+use Rattle.rinv_defs.specs.Invariant.{Fraction, IsInvariant, change}
 use Rattle.rinv_defs.specs.Conditions.{graph_point}
 use Rattle.rinv_soundness.proofs.FirstVariables.{agree_front, moved_front}
 use Rattle.rinv_soundness.proofs.Substituting.{identity, put, put-class, put-constant, put-variable, move, move-constant, move-variable}
 use Rattle.rinv_soundness.proofs.SystemForms.{HasForm}
-use Rattle.rinv_soundness.proofs.Relabels.{ops, laws, x_at, at, graph-moved, graph-space, unit_twice, twice-moved, twice-space}
+use Rattle.rinv_soundness.proofs.Relabels.{ops, laws, x_at, graph-moved, graph-space, unit_twice, twice-moved, twice-space}
 use Rattle.rinv_soundness.proofs.ActionIdeals.{generators, on_graph, at_unit}
 use Rattle.rinv_soundness.proofs.HasMultiples.{crossed, crossed_in}
 use Rattle.rinv_soundness.proofs.ExtendedIdeals.{InIdeal, field}

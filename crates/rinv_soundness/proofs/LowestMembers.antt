@@ -2,8 +2,8 @@
 --   IsReducibleBy leads m    m is the monomial of a list that a lead divides
 --   multiple-variables   what has a multiple without denominators is the class of a sum in the first n variables
 --   basis-lowest         the fact
-use Rattle.std.proofs.Common.{◌≡◌, ◌⊎◌, ℕ, ◌≤◌, Bool, true, false, List, [], ◌∷◌, length, length-take, take, map, refl, sym, ◌∙◌, ap, subst, arith, inl, inr, true≢false}
-use Rattle.std.specs.Prelude.{IsTrue, IsFalse}
+use Rattle.std.proofs.Common.{◌≡◌, ◌⊎◌, ℕ, ◌≤◌, Bool, true, false, List, [], ◌∷◌, length, length-take, take, map, refl, sym, ◌∙◌, ap, subst₂, arith, inl, inr, true≢false}
+use Rattle.std.specs.Prelude.{IsTrue, ◌||◌}
 use Rattle.std.specs.List.{list_any}
 use mathlib.Core.Logic.{∥∥₁_prop, ∥∥₁_elim, ∥∥₁_map}
 use Rattle.rinv_algebra.specs.Ring.{RingOps, RingLaws, FieldLaws}
@@ -13,11 +13,9 @@ use Rattle.rinv_algebra.specs.Polynomial.{Polynomial, poly_ops}
 use Rattle.rinv_algebra.specs.Fraction.{Fraction, fraction_ops}
 use Rattle.rinv_algebra.specs.Normal.{is_in_variables}
 use Rattle.rinv_algebra.proofs.Grevlex.{grevlex_laws}
-use Rattle.rinv_algebra.proofs.PolynomialLaws.{poly_laws}
-use Rattle.rinv_theory.proofs.CRing.{CRing}
 use Rattle.rinv_theory.proofs.Classes.{Class, class, class_ring, class_dec}
 use Rattle.rinv_theory.proofs.Monoid.{Monomial, monomial, monomials, monomial_ind}
-use Rattle.rinv_theory.proofs.Polynomials.{polynomials, poly_ring, coefficient_at}
+use Rattle.rinv_theory.proofs.Polynomials.{polynomials, coefficient_at}
 use Rattle.rinv_theory.proofs.Of.{Of, of_any, of_where, of-weaken}
 use Rattle.rinv_theory.proofs.Leads.{Leads, zero_or_lead}
 use Rattle.rinv_theory.proofs.Places.{front, front-list}
@@ -25,9 +23,9 @@ use Rattle.rinv_theory.proofs.Variables.{IsFront, of-in_variables}
 use Rattle.rinv_theory.proofs.Fields.{fraction_laws}
 use Rattle.rinv_groebner.proofs.FirstVariables.{order_in}
 use Rattle.rinv_groebner.proofs.LeadingMonomials.{leads-out}
-use Rattle.rinv_defs.specs.System.{System, Poly, space_count}
+use Rattle.rinv_defs.specs.System.{System, space_count}
 use Rattle.rinv_defs.specs.Generators.{rational_ops}
-use Rattle.rinv_defs.specs.Extended.{Relation, action_ideal, is_reducible, IsReducedBasis}
+use Rattle.rinv_defs.specs.Extended.{Relation, action_ideal, IsReducedBasis}
 use Rattle.rinv_soundness.proofs.OverFractions.{Inner, Over, over_ring}
 use Rattle.rinv_soundness.proofs.HasMultiples.{HasMultiple, multiple-front}
 use Rattle.rinv_soundness.proofs.ExtendedIdeals.{Extended, has-extended, ops, laws, field}
@@ -35,6 +33,11 @@ use Rattle.rinv_soundness.proofs.ExtendedIdeals.{Extended, has-extended, ops, la
 -- m is the monomial of a list that one of the leads divides
 abbrev pub IsReducibleBy : List (List ℕ) → Monomial → Type 0
 IsReducibleBy leads m = (a : List ℕ) × (monomial a ≡ m) × IsTrue (list_any (λ r. divides r a) leads)
+
+-- a test of the images of a list
+pub any-map : {X Y : Type 0} (f : X → Y) (test : Y → Bool) (xs : List X) → list_any test (map f xs) ≡ list_any (λ x. test (f x)) xs
+any-map f test [] = refl
+any-map f test (x ∷ xs) = ap (λ (b : Bool). test (f x) || b) (any-map f test xs)
 
 module _ {E : Type 0} (o : RingOps E) (l : RingLaws o) (field : FieldLaws o) (n : ℕ) {M : Inner o l field → Type 0} {x : Over o l field} (a : HasMultiple o l field n M x) where
   -- what has a multiple without denominators is a sum of terms in the first n variables
@@ -62,11 +65,19 @@ module _ (s : System) (rs : List Relation) (basis : IsReducedBasis s rs) where
       absent m true e nz = monomials.same_eq _ _ e
       absent m false e nz = absurd (nz (multiple-front (ops s) (laws s) (field s) (space_count s) a m (λ q. true≢false (sym (monomials.same_refl m) ∙ ap (λ k. monomials.same k m) (sym q) ∙ e))))
 
+      LeadsIn : Class (poly_ops (rational_ops s.p)) → Monomial → Type 0
+      LeadsIn x m = Leads (polynomials (rational_ops s.p) (fraction_laws (ops s) (laws s) (field s))) (order_in grevlex grevlex_laws (space_count s)) x m
+
       at_list : (b : List ℕ) → Leads (polynomials (rational_ops s.p) (fraction_laws (ops s) (laws s) (field s))) (order_in grevlex grevlex_laws (space_count s)) x (monomial b) → ⊥
       at_list b lead = ∥∥₁_elim (multiple-variables (ops s) (laws s) (field s) (space_count s) a) (λ x y. absurd x) (λ (f, in_variables, at). ∥∥₁_elim (has-extended s a f at) (λ x y. absurd x) (λ member.
           let in_front : monomial (take (space_count s) b) ≡ monomial b = sym (front-list (space_count s) b) ∙ absent (monomial b) _ refl lead.nonzero in
           let short : length (take (space_count s) b) ≤ space_count s = omega (arith, length-take (space_count s) b) in
-          lead.nonzero (irreducible (monomial b) (take (space_count s) b, in_front, ?))))
+          lead.nonzero (irreducible (monomial b) (
+            take (space_count s) b,
+            in_front,
+            any-map (λ r. r.lead) (λ r. divides r (take (space_count s) b)) rs ∙ (basis.leads (take (space_count s) b) short).0
+                (f, member, leads-out (rational_ops s.p) (fraction_laws (ops s) (laws s) (field s)) grevlex grevlex_laws (space_count s) f in_variables (take (space_count s) b) (subst₂ LeadsIn (sym at) (sym in_front) lead)),
+          ))))
 
       go : (x ≡ (over_ring (ops s) (laws s) (field s)).zero) ⊎ ((m : Monomial) × Leads (polynomials (rational_ops s.p) (fraction_laws (ops s) (laws s) (field s))) (order_in grevlex grevlex_laws (space_count s)) x m) → x ≡ (over_ring (ops s) (laws s) (field s)).zero
       go (inl e) = e

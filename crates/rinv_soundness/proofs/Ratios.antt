@@ -3,7 +3,7 @@
 --   ratio                at each monomial the coefficients of the two rests have values in the ratio of P and Q
 --   rest-vanishes        where Q(Z) has a multiple in the ideal, the values of its rest are zero
 --   vanishes-rest        and the other way round
-use Rattle.std.proofs.Common.{◌≡◌, ℕ, ◌*◌, ◌<◌, ◌≤◌, List, [], ◌∷◌, length, get_or, refl, sym, ◌∙◌, ap, ap₂, subst, arith}
+use Rattle.std.proofs.Common.{◌≡◌, ℕ, ◌*◌, ◌<◌, List, [], ◌∷◌, length, get_or, refl, sym, ◌∙◌, ap, ap₂, subst}
 use mathlib.Core.Logic.{∥∥₁_prop, ∥∥₁_elim, ∥∥₁_map}
 use Rattle.rinv_algebra.specs.Ring.{RingOps, RingLaws, FieldLaws}
 use Rattle.rinv_algebra.specs.Polynomial.{poly_ops}
@@ -16,12 +16,11 @@ use Rattle.rinv_theory.proofs.Monoid.{Monomial, Monoid, monomials}
 use Rattle.rinv_theory.proofs.TermRing.{TermRing, constants, coefficient-zero, coefficient-neg, term-neg}
 use Rattle.rinv_theory.proofs.Polynomials.{polynomials, poly_ring, term_at, coefficient_at}
 use Rattle.rinv_theory.proofs.Universal.{change, change-term}
-use Rattle.rinv_theory.proofs.Of.{Of, of-add}
+use Rattle.rinv_theory.proofs.Of.{Of}
 use Rattle.rinv_theory.proofs.Ideals.{In}
 use Rattle.rinv_theory.proofs.Variables.{IsFront}
 use Rattle.rinv_theory.proofs.Fields.{fraction_laws}
 use Rattle.rinv_soundness.proofs.FirstVariables.{constant_front, retract-front}
-use Rattle.rinv_soundness.proofs.Substituting.{move}
 use Rattle.rinv_soundness.proofs.PlaceFacts.{nest-front}
 use Rattle.rinv_soundness.proofs.OverFractions.{Inner, Nested, Over, over_ring, nested, into, over, constant_over, constant_over-coefficient, to_z}
 use Rattle.rinv_soundness.proofs.HasMultiples.{InVariables, crossed, crossed_in, behind_z, HasMultiple, KeepsSums, KeepsMultiples, read, read-add, read-mul, read-move, multiple-of, multiple-add, multiple-mul}
