@@ -13,3 +13,5 @@ pub mod SpatialValues
 pub mod Ratios
 pub mod GraphImages
 pub mod LowestMembers
+pub mod Rewritten
+pub mod Vanishing
