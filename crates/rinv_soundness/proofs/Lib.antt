@@ -15,3 +15,5 @@ pub mod GraphImages
 pub mod LowestMembers
 pub mod Rewritten
 pub mod Vanishing
+pub mod FullParts
+pub mod SettledEntries
