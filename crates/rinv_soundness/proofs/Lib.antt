@@ -17,3 +17,4 @@ pub mod Rewritten
 pub mod Vanishing
 pub mod FullParts
 pub mod SettledEntries
+pub mod CoveredLeads
