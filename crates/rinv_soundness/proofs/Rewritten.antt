@@ -120,7 +120,7 @@ module _ (s : System) where
 
   module _ (fs : List Poly) (c : List Fraction) (qs : List SymbolRelation) (w : IsRewriting fs c qs) where
     nothing_in : InIdeal s fs (poly_ring (ops s) (laws s)).zero
-    nothing_in = subst (In (poly_ring (ops s) (laws s)) (generator (ops s) (laws s) fs)) (sym (hom-zero (move (ops s) (laws s) (group_count s)))) In.none
+    nothing_in = ∣ subst (In (poly_ring (ops s) (laws s)) (generator (ops s) (laws s) fs)) (sym (hom-zero (move (ops s) (laws s) (group_count s)))) In.none ∣₁
 
     in_space : (k : ℕ) → k < length c → InSpace (ops s) (laws s) (field s) (space_count s) (get_or c k (rational_ops s.p).one)
     in_space k h = fraction_in (get_or c k (rational_ops s.p).one) (w.fractions k (rational_ops s.p).one h)
@@ -160,14 +160,14 @@ module _ (s : System) where
     coefficient-value r m = value-class (ops s) (laws s) (field s) c _ ∙ ap (value_hom (ops s) (laws s) (field s) c).at (sym (class-coefficient (poly_ops (ops s)) (poly_laws (ops s) (laws s)) r m))
 
     -- the coefficients of the rests of P(Z) and Q(Z) at a monomial denote an invariant P/Q, where the second has a value
-    pub rest-denotes : (f : Fraction) → IsFraction s f → ∥ InIdeal s fs (crossed (ops s) (laws s) (field s) (space_count s) (class (poly_ops (ops s)) f.0) (class (poly_ops (ops s)) f.1)) ∥₁ → (a b : SymbolPoly) → IsRestBy s qs (in_z s.p f.0) a → IsRestBy s qs (in_z s.p f.1) b
+    pub rest-denotes : (f : Fraction) → IsFraction s f → InIdeal s fs (crossed (ops s) (laws s) (field s) (space_count s) (class (poly_ops (ops s)) f.0) (class (poly_ops (ops s)) f.1)) → (a b : SymbolPoly) → IsRestBy s qs (in_z s.p f.0) a → IsRestBy s qs (in_z s.p f.1) b
         → (m : List ℕ) → ¬ (IsSame (rational_ops s.p) (value_at s.p c (coefficient (poly_ops (residue_ops s.p)) b m)) (rational_ops s.p).zero) → Denotes s.p c (coefficient (poly_ops (residue_ops s.p)) a m, coefficient (poly_ops (residue_ops s.p)) b m) f
     rest-denotes f in_f member a b rest_a rest_b m defined = record {
       defined = defined;
       equal = class_exact (rational_ops s.p) rational_laws _ _ (
           class-mul (rational_ops s.p) rational_laws _ _ ∙ ap₂ Rational.mul (coefficient-value a m) (sym (polynomial_fractions-into (ops s) (laws s) (field s) f.1))
-          ∙ ∥∥₁_elim member (Rational.is_set _ _) (λ member. ratios.ratio (ops s) (laws s) (field s) (space_count s) nothing_in (ideal-add s fs) (ideal-mul s fs) c in_space G relation_at (IsReducibleBy (map (λ q. q.lead) qs)) w.lowest
-          (fraction_in f in_f).numerator (fraction_in f in_f).denominator (is_rest f.0 a rest_a) (is_rest f.1 b rest_b) member (monomial m))
+          ∙ ratios.ratio (ops s) (laws s) (field s) (space_count s) nothing_in (ideal-add s fs) (ideal-mul s fs) c in_space G relation_at (IsReducibleBy (map (λ q. q.lead) qs)) w.lowest
+          (fraction_in f in_f).numerator (fraction_in f in_f).denominator (is_rest f.0 a rest_a) (is_rest f.1 b rest_b) member (monomial m)
           ∙ ap₂ Rational.mul (polynomial_fractions-into (ops s) (laws s) (field s) f.0) (sym (coefficient-value b m)) ∙ sym (class-mul (rational_ops s.p) rational_laws _ _));
     }
 
