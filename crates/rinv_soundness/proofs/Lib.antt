@@ -18,3 +18,4 @@ pub mod Vanishing
 pub mod FullParts
 pub mod SettledEntries
 pub mod CoveredLeads
+pub mod TiedRelations
