@@ -19,3 +19,4 @@ pub mod FullParts
 pub mod SettledEntries
 pub mod CoveredLeads
 pub mod TiedRelations
+pub mod LowestOfBasis
