@@ -20,3 +20,4 @@ pub mod SettledEntries
 pub mod CoveredLeads
 pub mod TiedRelations
 pub mod LowestOfBasis
+pub mod Searching
