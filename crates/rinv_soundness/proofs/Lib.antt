@@ -21,3 +21,5 @@ pub mod CoveredLeads
 pub mod TiedRelations
 pub mod LowestOfBasis
 pub mod Searching
+pub mod CertificateRewriting
+pub mod DividingRelations

@@ -44,7 +44,7 @@ use Rattle.rinv_defs.specs.Conditions.{graph_point, vanishes_on_graph}
 use Rattle.rinv_defs.specs.RelationConditions.{fraction_at, is_tied_to, z_power, behind_z, relation_of, is_tail, relation_is_shown}
 use Rattle.rinv_defs.proofs.Tests.{not-true}
 use Rattle.rinv_soundness.specs.Rewriting.{symbol_poly, symbol_of, symbol_relation}
-use Rattle.rinv_soundness.proofs.FirstVariables.{front-product, front-neg, more_variables, moved_front}
+use Rattle.rinv_soundness.proofs.FirstVariables.{front-product, of-opposite, more_variables, moved_front}
 use Rattle.rinv_soundness.proofs.GeneratorLists.{within_list}
 use Rattle.rinv_soundness.proofs.Substituting.{var, variable-class, put, put-class, move, move-constant, move-variable}
 use Rattle.rinv_soundness.proofs.SystemForms.{HasForm, InFirst, good_front}
@@ -219,7 +219,7 @@ module _ (c : Certificate) (form : HasForm c.system) (fractions : All (IsFractio
       (ap (val c.system c.fractions) (class-neg (poly_ops (poly_ops (ops c.system))) (poly_laws (poly_ops (ops c.system)) (poly_laws (ops c.system) (laws c.system))) _) ∙ hom-neg (values (ops c.system) (laws c.system) (field c.system) c.fractions) _)
 
   cleared_in : (r : RelationItem) → length r.a ≡ n → InFirst c.system n r.d → list_all (is_tail_item c.system c.fractions) r.tail ≡ true → Of (polynomials (ops c.system) (laws c.system)) (IsFront (2 * space_count c.system)) (cleared c.system r)
-  cleared_in r count d_in forms = of-add (polynomials (ops c.system) (laws c.system)) (part r.a r.d count d_in) (front-neg (polynomials (ops c.system) (laws c.system)) (2 * space_count c.system) (tail_in r.tail forms))
+  cleared_in r count d_in forms = of-add (polynomials (ops c.system) (laws c.system)) (part r.a r.d count d_in) (of-opposite (polynomials (ops c.system) (laws c.system)) (tail_in r.tail forms))
     where
       part : (a : List ℕ) (x : Poly) → length a ≡ n → InFirst c.system n x → Of (polynomials (ops c.system) (laws c.system)) (IsFront (2 * space_count c.system)) (K.mul (power c.system a) ((move (ops c.system) (laws c.system) (space_count c.system)).at (class (poly_ops (ops c.system)) x)))
       part a x e q = let more : space_count c.system ≤ 2 * space_count c.system = omega arith in
