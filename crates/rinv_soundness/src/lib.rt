@@ -11,9 +11,17 @@ ghost use Rattle.rinv_defs.specs.System.{System, Poly, space_count};
 ghost use Rattle.rinv_defs.specs.SystemForm.{IsSystem};
 ghost use Rattle.rinv_defs.specs.Laws.{AllLawsHold};
 ghost use Rattle.rinv_defs.specs.Invariant.{Fraction, IsInvariant};
-ghost use Rattle.rinv_defs.specs.Generators.{rational_ops, value_at, Denotes};
+ghost use Rattle.rinv_defs.specs.Generators.{rational_ops, value_at, Denotes, IsSound};
+ghost use Rattle.rinv_defs.specs.Certificate.{Certificate, full};
+ghost use Rattle.rinv_defs.specs.Accepted.{IsAccepted};
 ghost use Rattle.rinv_defs.specs.Extended.{Vanishes};
 ghost use Rattle.rinv_soundness.specs.Rewriting.{SymbolPoly, SymbolRelation, in_z, IsSymbolBasis, IsRestBy};
+
+/// An accepted certificate of kind `full` is sound: the laws hold, its fractions are invariant, and each invariant, of any degree, is
+/// a rational expression in them.
+pub fn accepted_is_sound()
+    ensures { (c : Certificate) → c.kind ≡ full → IsAccepted c → IsSound c.system c.fractions }
+{}
 
 /// Rewriting: P(Z) and Q(Z) are divided by relations with symbols. At each monomial where the coefficient of the rest of Q(Z) has a
 /// value, the coefficients of the two rests denote an invariant P/Q. There is such a monomial exactly where Q does not vanish on the
