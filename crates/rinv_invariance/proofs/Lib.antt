@@ -1,0 +1,2 @@
+pub mod QuotientRing
+pub mod Extensions

@@ -1,0 +1,2 @@
+//! Invariance of the coefficients of the reduced Gröbner basis.
+#![tactic(auto)]
