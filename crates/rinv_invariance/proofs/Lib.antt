@@ -1,2 +1,4 @@
 pub mod QuotientRing
 pub mod Extensions
+pub mod NormalForms
+pub mod FiniteForms
