@@ -2,3 +2,4 @@ pub mod QuotientRing
 pub mod Extensions
 pub mod NormalForms
 pub mod FiniteForms
+pub mod Flatness
