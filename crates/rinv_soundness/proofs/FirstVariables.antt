@@ -1,0 +1,99 @@
+-- Polynomials in the first v variables: maps of rings out of them are told apart by these variables alone.
+--   front-variable       the part of a variable in the first v variables: itself, or 1
+--   agree_front          maps that agree at constants and at the first v variables agree on such polynomials
+--   congruent_front      maps that are congruent there are congruent on such polynomials
+use Rattle.std.proofs.Common.{◌≡◌, ◌⊎◌, ℕ, zero, suc, ◌<◌, ◌≤◌, [], ◌∷◌, ◌++◌, length, length-append, take, take_all, replicate, refl, sym, ◌∙◌, ap, ap₂, subst, arith, inl, inr}
+use Rattle.std.proofs.lemmas.List.{length-replicate}
+use mathlib.Core.Logic.{∥∥₁_prop, ∥∥₁_elim, ∥∥₁_map}
+use Rattle.rinv_algebra.specs.Monomial.{same_monomial}
+use Rattle.rinv_theory.proofs.CRing.{CRing, Hom, compose, hom-zero}
+use Rattle.rinv_theory.proofs.Monoid.{IsOne, Monomial, monomial, monomials, monomial_sound, monomial-one, monoid_map-one}
+use Rattle.rinv_theory.proofs.TermRing.{TermRing, terms_ind, split_term, monomial-term}
+use Rattle.rinv_theory.proofs.Universal.{relabel, relabel-term}
+use Rattle.rinv_theory.proofs.Substitution.{variable_monomial, monomial_by_variables, agree_variables}
+use Rattle.rinv_theory.proofs.Of.{Of}
+use Rattle.rinv_theory.proofs.Ideals.{IsCongruent, congruent-refl, congruent-add, congruent-mul}
+use Rattle.rinv_theory.proofs.Places.{front, front-list, front-mul}
+use Rattle.rinv_theory.proofs.Variables.{IsFront}
+
+low_or_high : (k v : ℕ) → (k < v) ⊎ (v ≤ k)
+low_or_high k zero = inr (omega arith)
+low_or_high zero (suc v) = inl (omega arith)
+low_or_high (suc k) (suc v) = elim (low_or_high k v) [ inl h ↦ inl (omega arith) | inr h ↦ inr (omega arith) ]
+
+-- a variable among the first v is its own part in them
+pub front-variable : (v k : ℕ) → k < v → front v (variable_monomial k) ≡ variable_monomial k
+front-variable v k h =
+    let short : length (replicate k 0 ++ 1 ∷ []) ≤ v = omega (arith, length-append (replicate {A = ℕ} k 0) (1 ∷ []), length-replicate {A = ℕ} k 0) in
+    front-list v _ ∙ ap monomial (take_all v _ short)
+
+zeros : (v k : ℕ) → v ≤ k → IsOne (take v (replicate k 0 ++ 1 ∷ [])) []
+unfolding same_monomial
+zeros zero k h = refl
+zeros (suc v) zero h = absurd (omega arith)
+zeros (suc v) (suc k) h = zeros v k (omega arith)
+
+-- another variable has none
+pub front-variable_past : (v k : ℕ) → v ≤ k → front v (variable_monomial k) ≡ monomials.one
+front-variable_past v k h = front-list v _ ∙ monomial_sound _ [] (zeros v k h) ∙ monomial-one
+
+module _ {K P : Type 0} {𝓚 : CRing K} (𝓣 : TermRing 𝓚 monomials P) where
+  -- the variables past the first v are put 1
+  abbrev retract : ℕ → Hom 𝓣.ring 𝓣.ring
+  retract v = relabel 𝓣 𝓣 (front v) (front-mul v)
+
+  retract-front : (v : ℕ) {x : P} → Of 𝓣 (IsFront v) x → (retract v).at x ≡ x
+  retract-front v Of.none = hom-zero (retract v)
+  retract-front v (Of.more c m q r) = (retract v).add _ _ ∙ ap₂ 𝓣.ring.add (relabel-term 𝓣 𝓣 (front v) (front-mul v) c m ∙ ap (𝓣.term c) q) (retract-front v r)
+
+  retract-constant : (v : ℕ) (c : K) → (retract v).at (𝓣.term c monomials.one) ≡ 𝓣.term c monomials.one
+  retract-constant v c = relabel-term 𝓣 𝓣 (front v) (front-mul v) c monomials.one ∙ ap (𝓣.term c) (monoid_map-one monomials monomials (front v) (front-mul v))
+
+  retract-variable : (v k : ℕ) → (retract v).at (𝓣.term 𝓚.one (variable_monomial k)) ≡ 𝓣.term 𝓚.one (front v (variable_monomial k))
+  retract-variable v k = relabel-term 𝓣 𝓣 (front v) (front-mul v) 𝓚.one (variable_monomial k)
+
+  module _ {A : Type 0} (𝓐 : CRing A) where
+    module _ {I : Type 0} (F : I → A) where
+      -- maps of rings that agree at constants and are congruent at variables are congruent
+      pub congruent_maps : (φ ψ : Hom 𝓣.ring 𝓐) → ((c : K) → φ.at (𝓣.term c monomials.one) ≡ ψ.at (𝓣.term c monomials.one)) → ((k : ℕ) → IsCongruent 𝓐 F (φ.at (𝓣.term 𝓚.one (variable_monomial k))) (ψ.at (𝓣.term 𝓚.one (variable_monomial k))))
+          → (x : P) → ∥ IsCongruent 𝓐 F (φ.at x) (ψ.at x) ∥₁
+      congruent_maps φ ψ at_constants at_variables =
+          terms_ind 𝓣 (λ x. ∥ Congruent x ∥₁) (λ x. ∥∥₁_prop) ∣ equal _ (hom-zero φ ∙ sym (hom-zero ψ)) ∣₁ (λ c m x i. ∥∥₁_elim (at_monomial m) ∥∥₁_prop (λ j. ∥∥₁_map i (λ i. sum c m x j i)))
+        where
+          Congruent : P → Type 0
+          Congruent x = IsCongruent 𝓐 F (φ.at x) (ψ.at x)
+
+          equal : (x : P) → φ.at x ≡ ψ.at x → Congruent x
+          equal x e = subst (IsCongruent 𝓐 F (φ.at x)) e (congruent-refl 𝓐 F (φ.at x))
+
+          times : (x y : P) → Congruent x → Congruent y → Congruent (𝓣.ring.mul x y)
+          times x y r s = subst (IsCongruent 𝓐 F (φ.at (𝓣.ring.mul x y))) (sym (ψ.mul x y)) (subst (λ z. IsCongruent 𝓐 F z (𝓐.mul (ψ.at x) (ψ.at y))) (sym (φ.mul x y)) (congruent-mul 𝓐 F _ _ _ _ r s))
+
+          at_monomial : (m : Monomial) → ∥ Congruent (𝓣.term 𝓚.one m) ∥₁
+          at_monomial = monomial_by_variables (λ m. ∥ Congruent (𝓣.term 𝓚.one m) ∥₁) (λ m. ∥∥₁_prop) ∣ equal _ (at_constants 𝓚.one) ∣₁ (λ k m i. ∥∥₁_map i (λ i. subst Congruent (monomial-term 𝓣 (variable_monomial k) m 𝓚.one) (times _ _ (at_variables k) i)))
+
+          sum : (c : K) (m : Monomial) (x : P) → Congruent (𝓣.term 𝓚.one m) → Congruent x → Congruent (𝓣.ring.add (𝓣.term c m) x)
+          sum c m x j i =
+              let here : Congruent (𝓣.term c m) = subst Congruent (sym (split_term 𝓣 c m)) (times _ _ (equal _ (at_constants c)) j) in
+              subst (IsCongruent 𝓐 F (φ.at (𝓣.ring.add (𝓣.term c m) x))) (sym (ψ.add _ _)) (subst (λ z. IsCongruent 𝓐 F z (𝓐.add (ψ.at (𝓣.term c m)) (ψ.at x))) (sym (φ.add _ _)) (congruent-add 𝓐 F _ _ _ _ here i))
+
+      -- the same of polynomials in the first v variables, by these
+      pub congruent_front : (φ ψ : Hom 𝓣.ring 𝓐) (v : ℕ) → ((c : K) → φ.at (𝓣.term c monomials.one) ≡ ψ.at (𝓣.term c monomials.one)) → ((k : ℕ) → k < v → IsCongruent 𝓐 F (φ.at (𝓣.term 𝓚.one (variable_monomial k))) (ψ.at (𝓣.term 𝓚.one (variable_monomial k))))
+          → {x : P} → Of 𝓣 (IsFront v) x → ∥ IsCongruent 𝓐 F (φ.at x) (ψ.at x) ∥₁
+      unfolding compose
+      congruent_front φ ψ v at_constants at_variables {x} r = subst (λ x. ∥ IsCongruent 𝓐 F (φ.at x) (ψ.at x) ∥₁) (retract-front v r) (congruent_maps (compose φ (retract v)) (compose ψ (retract v))
+          (λ c. ap φ.at (retract-constant v c) ∙ at_constants c ∙ ap ψ.at (sym (retract-constant v c))) (λ k. go k (low_or_high k v)) x)
+        where
+          go : (k : ℕ) → (k < v) ⊎ (v ≤ k) → IsCongruent 𝓐 F (φ.at ((retract v).at (𝓣.term 𝓚.one (variable_monomial k)))) (ψ.at ((retract v).at (𝓣.term 𝓚.one (variable_monomial k))))
+          go k (inl h) = let e = retract-variable v k ∙ ap (𝓣.term 𝓚.one) (front-variable v k h) in subst (λ y. IsCongruent 𝓐 F (φ.at y) (ψ.at y)) (sym e) (at_variables k h)
+          go k (inr h) = let e = retract-variable v k ∙ ap (𝓣.term 𝓚.one) (front-variable_past v k h) in subst (λ y. IsCongruent 𝓐 F (φ.at y) (ψ.at y)) (sym e) (subst (IsCongruent 𝓐 F (φ.at (𝓣.term 𝓚.one monomials.one))) (at_constants 𝓚.one) (congruent-refl 𝓐 F _))
+
+    -- maps of rings that agree at constants and at the first v variables agree on polynomials in these
+    pub agree_front : (φ ψ : Hom 𝓣.ring 𝓐) (v : ℕ) → ((c : K) → φ.at (𝓣.term c monomials.one) ≡ ψ.at (𝓣.term c monomials.one)) → ((k : ℕ) → k < v → φ.at (𝓣.term 𝓚.one (variable_monomial k)) ≡ ψ.at (𝓣.term 𝓚.one (variable_monomial k)))
+        → {x : P} → Of 𝓣 (IsFront v) x → φ.at x ≡ ψ.at x
+    unfolding compose
+    agree_front φ ψ v at_constants at_variables {x} r = ap φ.at (sym (retract-front v r)) ∙ agree_variables 𝓣 𝓐 (compose φ (retract v)) (compose ψ (retract v)) (λ c. ap φ.at (retract-constant v c) ∙ at_constants c ∙ ap ψ.at (sym (retract-constant v c))) (λ k. go k (low_or_high k v)) x ∙ ap ψ.at (retract-front v r)
+      where
+        go : (k : ℕ) → (k < v) ⊎ (v ≤ k) → φ.at ((retract v).at (𝓣.term 𝓚.one (variable_monomial k))) ≡ ψ.at ((retract v).at (𝓣.term 𝓚.one (variable_monomial k)))
+        go k (inl h) = let e = retract-variable v k ∙ ap (𝓣.term 𝓚.one) (front-variable v k h) in ap φ.at e ∙ at_variables k h ∙ ap ψ.at (sym e)
+        go k (inr h) = let e = retract-variable v k ∙ ap (𝓣.term 𝓚.one) (front-variable_past v k h) in ap φ.at e ∙ at_constants 𝓚.one ∙ ap ψ.at (sym e)

@@ -1,0 +1,2 @@
+pub mod FirstVariables
+pub mod Substituting
