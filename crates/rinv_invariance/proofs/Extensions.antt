@@ -12,16 +12,13 @@ use Rattle.rinv_theory.proofs.TermSums.{IsAdditive}
 use Rattle.rinv_theory.proofs.TermRing.{TermRing}
 use Rattle.rinv_theory.proofs.Universal.{extend, extend-term, extend-add, agree, adds-zero, change, change-term}
 use Rattle.rinv_theory.proofs.Ideals.{In}
+use Rattle.rinv_soundness.proofs.Substituting.{identity}
 
 -- the polynomials of 𝓣 among those of 𝓤, whose coefficients are an algebra over those of 𝓣
 pub record Extension {K A M P U : Type 0} {𝓚 : CRing K} {𝓐 : CRing A} {𝓜 : Monoid M} (𝓣 : TermRing 𝓚 𝓜 P) (𝓤 : TermRing 𝓐 𝓜 U) : Type 0 where
   pub number : Hom 𝓚 𝓐
   pub into : Hom 𝓣.ring 𝓤.ring
   pub into_term : (c : K) (m : M) → into.at (𝓣.term c m) ≡ 𝓤.term (number.at c) m
-
--- the map that keeps each element
-unfoldable pub identity : {A : Type 0} (𝓐 : CRing A) → Hom 𝓐 𝓐
-identity 𝓐 = record { at = λ x. x; add = λ x y. refl; mul = λ x y. refl; one = refl }
 
 -- the polynomials themselves
 unfoldable pub itself : {K M P : Type 0} {𝓚 : CRing K} {𝓜 : Monoid M} (𝓣 : TermRing 𝓚 𝓜 P) → Extension 𝓣 𝓣

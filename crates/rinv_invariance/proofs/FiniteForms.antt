@@ -13,7 +13,8 @@ use Rattle.rinv_theory.proofs.TermRing.{TermRing, term_zero, coefficient-zero}
 use Rattle.rinv_theory.proofs.Universal.{agree}
 use Rattle.rinv_theory.proofs.Leads.{MonomialOrder, Leads, zero_or_lead}
 use Rattle.rinv_theory.proofs.Ideals.{In, in-add, in-mul, in-neg, in-hom}
-use Rattle.rinv_invariance.proofs.Extensions.{Extension, itself, identity}
+use Rattle.rinv_soundness.proofs.Substituting.{identity}
+use Rattle.rinv_invariance.proofs.Extensions.{Extension, itself}
 use Rattle.rinv_invariance.proofs.NormalForms.{normal, normal-add, normal-term, normal-zero, normal-near, constant-coefficient}
 
 module _ {K M P J : Type 0} {𝓚 : CRing K} {𝓜 : Monoid M} (𝓣 : TermRing 𝓚 𝓜 P) (γ : J → P) where

@@ -11,7 +11,7 @@ use Rattle.rinv_theory.proofs.Monoid.{Monoid}
 use Rattle.rinv_theory.proofs.TermRing.{TermRing, terms_ind, coefficient-zero}
 use Rattle.rinv_theory.proofs.Leads.{MonomialOrder}
 use Rattle.rinv_theory.proofs.Ideals.{In, in-mul, in_one}
-use Rattle.rinv_invariance.proofs.Extensions.{Extension, itself, identity}
+use Rattle.rinv_invariance.proofs.Extensions.{Extension, itself}
 use Rattle.rinv_invariance.proofs.NormalForms.{normal, normal-add, normal-zero, normal-scale, normal-into, split_into, normal_zero_member, constant-coefficient}
 use Rattle.rinv_invariance.proofs.FiniteForms.{Member, Kills, kills_both, Forms, forms}
 
@@ -33,9 +33,12 @@ module _ {K A M P U J : Type 0} {𝓚 : CRing K} {𝓐 : CRing A} {𝓜 : Monoid
 
   -- a term times a generator
   killed_term : (a : A) (m : M) (j : J) → Killed (𝓤.term a m * Multiples j)
-  killed_term a m j = ((𝓣.ring.mul (𝓣.term 𝓚.one m) (γ j), in-mul 𝓣.ring γ (𝓣.term 𝓚.one m) (in_one 𝓣.ring γ j)) ∷ [], λ nf z.
-      ap (normal e nf) (ap (λ x. x * Multiples j) (split_into e nf a m) ∙ 𝓤.ring.mul_assoc _ _ _ ∙ ap (λ x. 𝓤.term a 𝓜.one * x) (sym (e.into.mul _ _)))
-      ∙ normal-scale e nf a _ ∙ ap (λ x. 𝓤.term a 𝓜.one * x) (normal-into e nf _ ∙ ap e.into.at z.0 ∙ hom-zero e.into) ∙ mul_zero 𝓤.ring _)
+  killed_term a m j = (
+    (𝓣.ring.mul (𝓣.term 𝓚.one m) (γ j), in-mul 𝓣.ring γ (𝓣.term 𝓚.one m) (in_one 𝓣.ring γ j)) ∷ [],
+    λ nf z.
+        ap (normal e nf) (ap (λ x. x * Multiples j) (split_into e nf a m) ∙ 𝓤.ring.mul_assoc _ _ _ ∙ ap (λ x. 𝓤.term a 𝓜.one * x) (sym (e.into.mul _ _)))
+        ∙ normal-scale e nf a _ ∙ ap (λ x. 𝓤.term a 𝓜.one * x) (normal-into e nf _ ∙ ap e.into.at z.0 ∙ hom-zero e.into) ∙ mul_zero 𝓤.ring _,
+  )
 
   killed_multiple : (j : J) (u : U) → ∥ Killed (u * Multiples j) ∥₁
   killed_multiple j = terms_ind 𝓤 (λ u. ∥ Killed (u * Multiples j) ∥₁) (λ u. ∥∥₁_prop) ∣ ([], λ nf z. ap (normal e nf) (zero_mul 𝓤.ring _) ∙ normal-zero e nf) ∣₁
@@ -68,8 +71,11 @@ module _ {K A M P U J : Type 0} {𝓚 : CRing K} {𝓐 : CRing A} {𝓜 : Monoid
     confiners (In.more {f = f} u (inr j) r) = ∥∥₁_elim (confiners r) ∥∥₁_prop (λ k. ∥∥₁_map (killed_multiple j u) (λ h. together k h))
       where
         together : Confined f → Killed (u * Multiples j) → Confined (u * Multiples j + f)
-        together (vs, c) (ws, k) = (vs ++ ws, λ nf z n. let r = kills_both 𝓣 γ nf vs ws z in
-            subst (In 𝓐 F) (ap (λ x. 𝓤.coefficient x n) (sym (normal-add e nf _ _ ∙ ap (λ x. x + normal e nf f) (k nf r.1) ∙ 𝓤.ring.zero_add _))) (c nf r.0 n))
+        together (vs, c) (ws, k) = (
+          vs ++ ws,
+          λ nf z n. let r = kills_both 𝓣 γ nf vs ws z in
+              subst (In 𝓐 F) (ap (λ x. 𝓤.coefficient x n) (sym (normal-add e nf _ _ ∙ ap (λ x. x + normal e nf f) (k nf r.1) ∙ 𝓤.ring.zero_add _))) (c nf r.0 n),
+        )
 
   module _ (𝓞 : MonomialOrder 𝓜) (zero_dec : (c : K) → Dec (c ≡ 𝓚.zero)) (inverse : (c : K) → (c ≡ 𝓚.zero → ⊥) → (d : K) × (𝓚.mul d c ≡ 𝓚.one)) where
     -- a factor that is no zero divisor can be left out

@@ -3,3 +3,4 @@ pub mod Extensions
 pub mod NormalForms
 pub mod FiniteForms
 pub mod Flatness
+pub mod Points

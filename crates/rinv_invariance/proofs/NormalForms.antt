@@ -13,7 +13,8 @@ use Rattle.rinv_theory.proofs.TermSums.{IsAdditive}
 use Rattle.rinv_theory.proofs.TermRing.{TermRing, constant-term, terms_ind}
 use Rattle.rinv_theory.proofs.Universal.{extend, extend-term, extend-add, adds-zero, agree}
 use Rattle.rinv_theory.proofs.Ideals.{In, in-add, in-mul, in-hom}
-use Rattle.rinv_invariance.proofs.Extensions.{Extension, itself, identity, Linear, each, each-add, each-term, each-into, each-unique}
+use Rattle.rinv_soundness.proofs.Substituting.{identity}
+use Rattle.rinv_invariance.proofs.Extensions.{Extension, itself, Linear, each, each-add, each-term, each-into, each-unique}
 
 module _ {K A M P U : Type 0} {𝓚 : CRing K} {𝓐 : CRing A} {𝓜 : Monoid M} {𝓣 : TermRing 𝓚 𝓜 P} {𝓤 : TermRing 𝓐 𝓜 U} (e : Extension 𝓣 𝓤) where
   -- a constant times a polynomial, by its coefficients
