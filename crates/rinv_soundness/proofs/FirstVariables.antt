@@ -16,7 +16,8 @@ use Rattle.rinv_theory.proofs.Ideals.{IsCongruent, congruent-refl, congruent-add
 use Rattle.rinv_theory.proofs.Places.{front, front-list, front-mul}
 use Rattle.rinv_theory.proofs.Variables.{IsFront}
 
-low_or_high : (k v : ℕ) → (k < v) ⊎ (v ≤ k)
+-- a number is below another, or not
+pub low_or_high : (k v : ℕ) → (k < v) ⊎ (v ≤ k)
 low_or_high k zero = inr (omega arith)
 low_or_high zero (suc v) = inl (omega arith)
 low_or_high (suc k) (suc v) = elim (low_or_high k v) [ inl h ↦ inl (omega arith) | inr h ↦ inr (omega arith) ]

@@ -1,2 +1,4 @@
 pub mod FirstVariables
 pub mod Substituting
+pub mod GeneratorLists
+pub mod SystemForms
