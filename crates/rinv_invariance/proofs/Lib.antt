@@ -4,3 +4,7 @@ pub mod NormalForms
 pub mod FiniteForms
 pub mod Flatness
 pub mod Points
+pub mod PieceValues
+pub mod PointLaws
+pub mod Zeros
+pub mod GroupLaws
