@@ -7,9 +7,10 @@
 --   put-move             a substitution after a move
 --   put_agree, put_front two substitutions with equal images are equal; on the first v variables, with equal first images
 --   put-same             the first v variables put for themselves
-use Rattle.std.proofs.Common.{◌≡◌, ℕ, zero, suc, ◌+◌, ◌<◌, List, [], ◌∷◌, ◌++◌, map, drop, replicate, get_or, refl, sym, ◌∙◌, ap, subst, arith}
+--   image-variables, image-left, image-right    the images of a list of variables, and of two lists one after the other
+use Rattle.std.proofs.Common.{◌≡◌, ℕ, zero, suc, ◌+◌, ◌<◌, List, [], ◌∷◌, ◌++◌, length, map, drop, replicate, get_or, refl, sym, ◌∙◌, ap, subst, arith}
 use Rattle.std.specs.List.{range_with_len}
-use Rattle.std.proofs.lemmas.List.{get_or-drop}
+use Rattle.std.proofs.lemmas.List.{get_or-drop, get_or_append_left, get_or-append-add}
 use Rattle.std.proofs.lemmas.List.FromFn.{get_or-map-range_with_len}
 use Rattle.rinv_algebra.specs.Ring.{RingOps, RingLaws}
 use Rattle.rinv_algebra.specs.Polynomial.{Polynomial, poly_ops, constant, variable}
@@ -113,6 +114,16 @@ module _ {E : Type 0} (o : RingOps E) (l : RingLaws o) where
       (λ c. ap (put images).at (move-constant k c) ∙ put-constant images c ∙ sym (put-constant (drop k images) c))
       (λ j. ap (put images).at (move-variable k j) ∙ put-variable images (k + j) ∙ ap poly (sym (get_or-drop k images j (poly_ops o).one)) ∙ sym (put-variable (drop k images) j))
 
-  -- so many variables, from a place on: the k-th
-  pub image-variables : (place count k : ℕ) → k < count → image (map (variable o) (range_with_len place count)) k ≡ var (place + k)
-  image-variables place count k h = ap poly (get_or-map-range_with_len (variable o) place count k (place + k) (poly_ops o).one h refl) ∙ variable-class (place + k)
+  -- so many variables, from a place on: the k-th is the one at place j
+  pub image-variables : (place count k j : ℕ) → k < count → place + k ≡ j → image (map (variable o) (range_with_len place count)) k ≡ var j
+  image-variables place count k j h e = ap poly (get_or-map-range_with_len (variable o) place count k j (poly_ops o).one h e) ∙ variable-class j
+
+  -- of two lists, one after the other: an image of the first
+  pub image-left : (images others : List (Polynomial E)) (k : ℕ) → k < length images → image (images ++ others) k ≡ image images k
+  image-left images others k h = ap poly (get_or_append_left images others (poly_ops o).one k h)
+
+  -- an image of the second
+  pub image-right : (images others : List (Polynomial E)) (v k j : ℕ) → length images ≡ v → v + k ≡ j → image (images ++ others) j ≡ image others k
+  image-right images others v k j count e =
+      let at : length images + k ≡ j = omega (arith, count, e) in
+      ap (λ (i : ℕ). image (images ++ others) i) (sym at) ∙ ap poly (get_or-append-add images others k (poly_ops o).one)
