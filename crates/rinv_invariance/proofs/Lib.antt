@@ -8,3 +8,4 @@ pub mod PieceValues
 pub mod PointLaws
 pub mod Zeros
 pub mod GroupLaws
+pub mod GraphPoints
