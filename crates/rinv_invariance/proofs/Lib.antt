@@ -9,3 +9,4 @@ pub mod PointLaws
 pub mod Zeros
 pub mod GroupLaws
 pub mod GraphPoints
+pub mod Movement
