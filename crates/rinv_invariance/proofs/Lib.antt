@@ -10,3 +10,4 @@ pub mod Zeros
 pub mod GroupLaws
 pub mod GraphPoints
 pub mod Movement
+pub mod MovedMaps
