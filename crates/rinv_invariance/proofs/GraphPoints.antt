@@ -24,7 +24,7 @@ use Rattle.rinv_defs.specs.System.{System, Poly, group_count, space_count, varia
 use Rattle.rinv_defs.specs.Extended.{graph, action_ideal}
 use Rattle.rinv_invariance.proofs.Points.{scalars, PolyClass, poly_terms, poly_class, map-map, at, act, IsPoint, IsOver, images, images-moved}
 use Rattle.rinv_invariance.proofs.PieceValues.{at-constant, at-variable}
-use Rattle.rinv_invariance.proofs.Zeros.{Zeros, zeros-left, zeros-right, zeros_both, zeros-at, zeros-map, differences-equal, equal-differences}
+use Rattle.rinv_invariance.proofs.Zeros.{Zeros, zeros-left, zeros-right, zeros_both, zeros-at, zeros-from, zeros-map, differences-equal, equal-differences}
 
 module _ (s : System) {A : Type 0} {𝓐 : CRing A} (κ : Hom (scalars s.p) 𝓐) where
   module _ (h : Hom (poly_terms s.p).ring 𝓐) (over : IsOver s κ h) where
@@ -105,9 +105,5 @@ module _ (s : System) (form : HasForm s) (sections : (k : ℕ) → k < length s.
   -- and the other way round
   pub graph-zeros : GraphPoint s κ group_images graph_images space_images → Zeros s h (action_ideal s)
   unfolding graph
-  graph-zeros g = zeros_both s h (s.ideal ++ graph s) _ (zeros_both s h s.ideal (graph s) (itself s.ideal (λ k. ideal-value k ∙ g.point.zero k)) (equal-differences s h _ _ (g.moved_to ∙ sym images-graph)))
+  graph-zeros g = zeros_both s h (s.ideal ++ graph s) _ (zeros_both s h s.ideal (graph s) (zeros-from s h s.ideal (λ k. ideal-value k ∙ g.point.zero k)) (equal-differences s h _ _ (g.moved_to ∙ sym images-graph)))
       (zeros-map s h (past (group_count s)) s.section (λ k low. section-value k ∙ g.section k))
-    where
-      itself : (fs : List Poly) → ((k : ℕ) → h.at (poly_class s.p (get_or fs k [])) ≡ 𝓐.zero) → Zeros s h fs
-      itself [] z = tt
-      itself (f ∷ fs) z = (z 0, itself fs (λ k. z (suc k)))

@@ -11,3 +11,4 @@ pub mod GroupLaws
 pub mod GraphPoints
 pub mod Movement
 pub mod MovedMaps
+pub mod MovedIdeal

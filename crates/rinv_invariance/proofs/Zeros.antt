@@ -1,7 +1,7 @@
 -- Maps of the polynomials' ring that are zero at each of a list of polynomials.
 --   Zeros s h fs         h is zero at each of fs
 --   zeros-left, zeros-right, zeros_both    of two lists, one after the other
---   zeros-at, zeros-map  by places
+--   zeros-at, zeros-from, zeros-map    by places
 --   member-zero          so it is at members of their ideal, and at each of a list of members
 --   differences-equal    where it is zero at the differences of two points, their images are equal
 use Rattle.std.proofs.Common.{◌≡◌, ℕ, zero, suc, ◌<◌, List, [], ◌∷◌, ◌++◌, length, map, get_or, refl, sym, ◌∙◌, ap, ap₂, arith}
@@ -14,11 +14,11 @@ use Rattle.rinv_algebra.proofs.ResidueLaws.{residue_laws}
 use Rattle.rinv_algebra.proofs.PolynomialLaws.{poly_laws}
 use Rattle.rinv_theory.proofs.CRing.{CRing, Hom, hom-zero, hom-neg, add_cancel, add_neg}
 use Rattle.rinv_theory.proofs.Classes.{class-add, class-neg, class-zero}
-use Rattle.rinv_theory.proofs.Ideals.{in-hom}
-use Rattle.rinv_theory.proofs.Members.{member-in}
+use Rattle.rinv_theory.proofs.Ideals.{In, in-hom}
+use Rattle.rinv_theory.proofs.Members.{generator, member-in}
 use Rattle.rinv_soundness.proofs.GeneratorLists.{in-zero}
 use Rattle.rinv_defs.specs.System.{System, Poly, differences}
-use Rattle.rinv_invariance.proofs.Points.{poly_terms, poly_class}
+use Rattle.rinv_invariance.proofs.Points.{PolyClass, poly_terms, poly_class}
 
 module _ (s : System) {A : Type 0} {𝓐 : CRing A} (h : Hom (poly_terms s.p).ring 𝓐) where
   abbrev value : Poly → A
@@ -51,14 +51,23 @@ module _ (s : System) {A : Type 0} {𝓐 : CRing A} (h : Hom (poly_terms s.p).ri
   zeros-at (f ∷ fs) z zero = z.0
   zeros-at (f ∷ fs) z (suc k) = zeros-at fs z.1 k
 
+  -- from the places
+  pub zeros-from : (fs : List Poly) → ((k : ℕ) → value (get_or fs k []) ≡ 𝓐.zero) → Zeros fs
+  zeros-from [] z = tt
+  zeros-from (f ∷ fs) z = (z 0, zeros-from fs (λ k. z (suc k)))
+
   -- at the images of a list, by places
   pub zeros-map : (g : Poly → Poly) (fs : List Poly) → ((k : ℕ) → k < length fs → value (g (get_or fs k [])) ≡ 𝓐.zero) → Zeros (map g fs)
   zeros-map g [] z = tt
   zeros-map g (f ∷ fs) z = (z 0 (omega arith), zeros-map g fs (λ k l. z (suc k) (omega (arith, l))))
 
+  -- at a member of the classes' ideal
+  pub in-value : (gens : List Poly) → Zeros gens → {x : PolyClass s.p} → In (poly_terms s.p).ring (generator (residue_ops s.p) (residue_laws s.p) gens) x → h.at x ≡ 𝓐.zero
+  in-value gens z r = in-zero 𝓐 _ (zeros-at gens z) (in-hom h _ r)
+
   -- at a member of their ideal
   pub member-zero : (gens : List Poly) → Zeros gens → (f : Poly) → IsMember (residue_ops s.p) gens f → value f ≡ 𝓐.zero
-  member-zero gens z f m = in-zero 𝓐 _ (zeros-at gens z) (in-hom h _ (member-in (residue_ops s.p) (residue_laws s.p) gens f m))
+  member-zero gens z f m = in-value gens z (member-in (residue_ops s.p) (residue_laws s.p) gens f m)
 
   -- at a list of members
   pub members-zero : (gens : List Poly) → Zeros gens → (fs : List Poly) → All (IsMember (residue_ops s.p) gens) fs → Zeros fs
