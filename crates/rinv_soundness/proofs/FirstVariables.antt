@@ -1,19 +1,20 @@
 -- Polynomials in the first v variables: maps of rings out of them are told apart by these variables alone.
 --   front-variable       the part of a variable in the first v variables: itself, or 1
+--   front-product, behind_front    products of such polynomials; those moved by k are in the first k + v
 --   agree_front          maps that agree at constants and at the first v variables agree on such polynomials
 --   congruent_front      maps that are congruent there are congruent on such polynomials
-use Rattle.std.proofs.Common.{◌≡◌, ◌⊎◌, ℕ, zero, suc, ◌<◌, ◌≤◌, [], ◌∷◌, ◌++◌, length, length-append, take, take_all, replicate, refl, sym, ◌∙◌, ap, ap₂, subst, arith, inl, inr}
+use Rattle.std.proofs.Common.{◌≡◌, ◌⊎◌, ℕ, zero, suc, ◌+◌, ◌<◌, ◌≤◌, [], ◌∷◌, ◌++◌, length, length-append, length-take, List, take, take_all, replicate, refl, sym, ◌∙◌, ap, ap₂, subst, arith, inl, inr}
 use Rattle.std.proofs.lemmas.List.{length-replicate}
 use mathlib.Core.Logic.{∥∥₁_prop, ∥∥₁_elim, ∥∥₁_map}
 use Rattle.rinv_algebra.specs.Monomial.{same_monomial}
-use Rattle.rinv_theory.proofs.CRing.{CRing, Hom, compose, hom-zero}
-use Rattle.rinv_theory.proofs.Monoid.{IsOne, Monomial, monomial, monomials, monomial_sound, monomial-one, monoid_map-one}
+use Rattle.rinv_theory.proofs.CRing.{zero_mul, add_mul, CRing, Hom, compose, hom-zero}
+use Rattle.rinv_theory.proofs.Monoid.{IsOne, Monomial, monomial, monomials, monomial_ind, monomial_sound, monomial-one, monoid_map-one}
 use Rattle.rinv_theory.proofs.TermRing.{TermRing, terms_ind, split_term, monomial-term}
 use Rattle.rinv_theory.proofs.Universal.{relabel, relabel-term}
 use Rattle.rinv_theory.proofs.Substitution.{variable_monomial, monomial_by_variables, agree_variables}
-use Rattle.rinv_theory.proofs.Of.{Of}
+use Rattle.rinv_theory.proofs.Of.{Of, of-add, of-times, of-term, of-weaken}
 use Rattle.rinv_theory.proofs.Ideals.{IsCongruent, congruent-refl, congruent-add, congruent-mul}
-use Rattle.rinv_theory.proofs.Places.{front, front-list, front-mul}
+use Rattle.rinv_theory.proofs.Places.{front, front-list, front-mul, behind, behind-list, behind-mul}
 use Rattle.rinv_theory.proofs.Variables.{IsFront}
 
 -- a number is below another, or not
@@ -38,6 +39,22 @@ zeros (suc v) (suc k) h = zeros v k (omega arith)
 pub front-variable_past : (v k : ℕ) → v ≤ k → front v (variable_monomial k) ≡ monomials.one
 front-variable_past v k h = front-list v _ ∙ monomial_sound _ [] (zeros v k h) ∙ monomial-one
 
+kept_first : (k v : ℕ) (a : List ℕ) → take (k + v) (replicate k 0 ++ a) ≡ replicate k 0 ++ take v a
+kept_first zero v a = let e : 0 + v ≡ v = omega arith in ap (λ (n : ℕ). take n a) e
+kept_first (suc k) v a = let e : suc k + v ≡ suc (k + v) = omega arith in ap (λ (n : ℕ). take n (0 ∷ (replicate k 0 ++ a))) e ∙ ap (λ (b : List ℕ). 0 ∷ b) (kept_first k v a)
+
+-- a monomial in the first v variables, moved by k, is in the first k + v
+pub behind_front : (k v : ℕ) (m : Monomial) → IsFront v m → IsFront (k + v) (behind k m)
+behind_front k v m q = monomial_ind (λ m. front (k + v) (behind k m) ≡ behind k (front v m)) (λ m. monomials.is_set _ _) (λ a. ap (front (k + v)) (behind-list k a) ∙ front-list (k + v) _ ∙ ap monomial (kept_first k v a) ∙ sym (ap (behind k) (front-list v a) ∙ behind-list k (take v a))) m ∙ ap (behind k) q
+
+-- the part in the first v variables is in the first w, where w is no less
+pub front-front : (v w : ℕ) → v ≤ w → (m : Monomial) → IsFront w (front v m)
+front-front v w h = monomial_ind (λ m. front w (front v m) ≡ front v m) (λ m. monomials.is_set _ _) (λ a. let short : length (take v a) ≤ w = omega (arith, length-take v a, h) in ap (front w) (front-list v a) ∙ front-list w (take v a) ∙ ap monomial (take_all w (take v a) short) ∙ sym (front-list v a))
+
+-- fewer variables are among more
+pub front_more : (v w : ℕ) → v ≤ w → (m : Monomial) → IsFront v m → IsFront w m
+front_more v w h m q = ap (front w) (sym q) ∙ front-front v w h m ∙ q
+
 module _ {K P : Type 0} {𝓚 : CRing K} (𝓣 : TermRing 𝓚 monomials P) where
   -- the variables past the first v are put 1
   abbrev retract : ℕ → Hom 𝓣.ring 𝓣.ring
@@ -46,6 +63,26 @@ module _ {K P : Type 0} {𝓚 : CRing K} (𝓣 : TermRing 𝓚 monomials P) wher
   retract-front : (v : ℕ) {x : P} → Of 𝓣 (IsFront v) x → (retract v).at x ≡ x
   retract-front v Of.none = hom-zero (retract v)
   retract-front v (Of.more c m q r) = (retract v).add _ _ ∙ ap₂ 𝓣.ring.add (relabel-term 𝓣 𝓣 (front v) (front-mul v) c m ∙ ap (𝓣.term c) q) (retract-front v r)
+
+  -- a product of polynomials in the first v variables
+  pub front-product : (v : ℕ) {x y : P} → Of 𝓣 (IsFront v) x → Of 𝓣 (IsFront v) y → Of 𝓣 (IsFront v) (𝓣.ring.mul x y)
+  front-product v {y = y} Of.none r = subst (Of 𝓣 (IsFront v)) (sym (zero_mul 𝓣.ring y)) Of.none
+  front-product v {y = y} (Of.more c m q s) r = subst (Of 𝓣 (IsFront v)) (sym (add_mul 𝓣.ring _ _ y)) (of-add 𝓣 (of-times 𝓣 c m (λ n p. front-mul v m n ∙ ap₂ monomials.mul q p) r) (front-product v s r))
+
+  -- a polynomial in the first v variables, moved by k
+  pub moved_front : (k v : ℕ) {x : P} → Of 𝓣 (IsFront v) x → Of 𝓣 (IsFront (k + v)) ((relabel 𝓣 𝓣 (behind k) (behind-mul k)).at x)
+  moved_front k v Of.none = subst (Of 𝓣 (IsFront (k + v))) (sym (hom-zero (relabel 𝓣 𝓣 (behind k) (behind-mul k)))) Of.none
+  moved_front k v (Of.more c m q s) =
+      subst (Of 𝓣 (IsFront (k + v))) (ap₂ 𝓣.ring.add (sym (relabel-term 𝓣 𝓣 (behind k) (behind-mul k) c m)) refl ∙ sym ((relabel 𝓣 𝓣 (behind k) (behind-mul k)).add _ _))
+      (Of.more c (behind k m) (behind_front k v m q) (moved_front k v s))
+
+  -- a constant is in the first v variables, for any v
+  pub constant_front : (v : ℕ) (c : K) → Of 𝓣 (IsFront v) (𝓣.term c monomials.one)
+  constant_front v c = of-term 𝓣 c monomials.one (monoid_map-one monomials monomials (front v) (front-mul v))
+
+  -- fewer variables are among more
+  pub more_variables : (v w : ℕ) → v ≤ w → {x : P} → Of 𝓣 (IsFront v) x → Of 𝓣 (IsFront w) x
+  more_variables v w h = of-weaken 𝓣 (front_more v w h)
 
   retract-constant : (v : ℕ) (c : K) → (retract v).at (𝓣.term c monomials.one) ≡ 𝓣.term c monomials.one
   retract-constant v c = relabel-term 𝓣 𝓣 (front v) (front-mul v) c monomials.one ∙ ap (𝓣.term c) (monoid_map-one monomials monomials (front v) (front-mul v))

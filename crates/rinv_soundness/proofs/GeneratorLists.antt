@@ -31,6 +31,12 @@ map_within f [] k d e h = absurd (omega arith)
 map_within f (x ∷ xs) zero d e h = refl
 map_within f (x ∷ xs) (suc k) d e h = map_within f xs k d e (omega arith)
 
+-- within a list the value past its end does not matter
+pub within_list : {X : Type 0} (xs : List X) (k : ℕ) (d e : X) → k < length xs → get_or xs k d ≡ get_or xs k e
+within_list [] k d e h = absurd (omega arith)
+within_list (x ∷ xs) zero d e h = refl
+within_list (x ∷ xs) (suc k) d e h = within_list xs k d e (omega arith)
+
 -- what holds of all holds of the one at a place
 pub all_at : {X : Type 0} (P : X → Type 0) (xs : List X) (k : ℕ) (d : X) → k < length xs → All P xs → P (get_or xs k d)
 all_at P [] k d h a = absurd (omega arith)

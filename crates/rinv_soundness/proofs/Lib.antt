@@ -5,3 +5,6 @@ pub mod SystemForms
 pub mod Relabels
 pub mod PlaceFacts
 pub mod OverFractions
+pub mod HasMultiples
+pub mod ExtendedIdeals
+pub mod ActionIdeals

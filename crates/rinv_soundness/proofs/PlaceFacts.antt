@@ -3,17 +3,19 @@
 --   front-behind, back-behind    the parts of a monomial moved past the first k
 --   nest-coefficient     a coefficient of a polynomial is one of a coefficient of it nested
 --   nest-behind          nested, a polynomial in the later variables is a constant
+--   nest-of              nested, a polynomial has monomials in the first k variables alone
 --   nest-front           nested, a polynomial in the first k variables has constants for coefficients
-use Rattle.std.proofs.Common.{◌≡◌, ℕ, zero, suc, Bool, true, false, cond, List, [], ◌∷◌, ◌++◌, take, drop, replicate, refl, sym, ◌∙◌, ap, ap₂, true≢false}
+use Rattle.std.proofs.Common.{◌≡◌, subst, arith, ◌≤◌, ℕ, zero, suc, Bool, true, false, cond, List, [], ◌∷◌, ◌++◌, take, drop, replicate, refl, sym, ◌∙◌, ap, ap₂, true≢false}
 use Rattle.rinv_algebra.specs.Monomial.{same_monomial}
-use Rattle.rinv_theory.proofs.CRing.{CRing, Hom, compose, hom-zero}
+use Rattle.rinv_theory.proofs.CRing.{CRing, Hom, hom-zero}
 use Rattle.rinv_theory.proofs.Monoid.{IsOne, Monomial, monomial, monomials, monomial_ind, monomial_sound, monomial-one}
 use Rattle.rinv_theory.proofs.TermRing.{TermRing, coefficient-zero, constants, constants-at}
-use Rattle.rinv_theory.proofs.Universal.{agree, change, change-term}
+use Rattle.rinv_theory.proofs.Universal.{agree, relabel, relabel-term, change, change-term}
 use Rattle.rinv_theory.proofs.Of.{Of}
-use Rattle.rinv_theory.proofs.Places.{front, front-list, back, back-list, behind, behind-list, front_behind}
-use Rattle.rinv_theory.proofs.Nested.{nest, nest-term, inner, inner-term}
+use Rattle.rinv_theory.proofs.Places.{front, front-list, back, back-list, behind, behind-list, behind-mul, front_behind}
+use Rattle.rinv_theory.proofs.Nested.{nest, nest-term}
 use Rattle.rinv_theory.proofs.Variables.{IsFront}
+use Rattle.rinv_soundness.proofs.FirstVariables.{front-front}
 
 nothing_left : (k : ℕ) (a : List ℕ) → drop k (take k a) ≡ []
 nothing_left zero a = refl
@@ -72,11 +74,17 @@ module _ {K P D S : Type 0} {𝓚 : CRing K} (𝓟 : TermRing 𝓚 monomials P) 
           ∙ picked c n _ ∙ whole c n _ _ _ refl refl refl ∙ sym (𝓟.coefficient_term c n m)
 
   -- nested, a polynomial in the later variables is a constant
-  pub nest-behind : (d : D) → (nest 𝓟 𝓓 𝓢 k).at ((inner 𝓟 𝓓 𝓢 k).at d) ≡ 𝓢.term d monomials.one
-  unfolding compose
-  nest-behind d = agree 𝓓 𝓢.ring (λ d. (nest 𝓟 𝓓 𝓢 k).at ((inner 𝓟 𝓓 𝓢 k).at d)) (λ d. 𝓢.term d monomials.one)
-      (λ x y. ap (nest 𝓟 𝓓 𝓢 k).at ((inner 𝓟 𝓓 𝓢 k).add x y) ∙ (nest 𝓟 𝓓 𝓢 k).add _ _) (λ x y. sym (𝓢.term_add x y monomials.one))
-      (λ c m. ap (nest 𝓟 𝓓 𝓢 k).at (inner-term 𝓟 𝓓 𝓢 k c m) ∙ nest-term 𝓟 𝓓 𝓢 k c (behind k m) ∙ ap₂ (λ x y. 𝓢.term (𝓓.term c x) y) (back-behind k m) (front-behind k m)) d
+  pub nest-behind : (d : D) → (nest 𝓟 𝓓 𝓢 k).at ((relabel 𝓓 𝓟 (behind k) (behind-mul k)).at d) ≡ 𝓢.term d monomials.one
+  nest-behind d = agree 𝓓 𝓢.ring (λ d. (nest 𝓟 𝓓 𝓢 k).at ((relabel 𝓓 𝓟 (behind k) (behind-mul k)).at d)) (λ d. 𝓢.term d monomials.one)
+      (λ x y. ap (nest 𝓟 𝓓 𝓢 k).at ((relabel 𝓓 𝓟 (behind k) (behind-mul k)).add x y) ∙ (nest 𝓟 𝓓 𝓢 k).add _ _) (λ x y. sym (𝓢.term_add x y monomials.one))
+      (λ c m. ap (nest 𝓟 𝓓 𝓢 k).at (relabel-term 𝓓 𝓟 (behind k) (behind-mul k) c m) ∙ nest-term 𝓟 𝓓 𝓢 k c (behind k m) ∙ ap₂ (λ x y. 𝓢.term (𝓓.term c x) y) (back-behind k m) (front-behind k m)) d
+
+  -- nested, a polynomial has monomials in the first k variables alone
+  pub nest-of : {Q : Monomial → Type 0} {x : P} → Of 𝓟 Q x → Of 𝓢 (IsFront k) ((nest 𝓟 𝓓 𝓢 k).at x)
+  nest-of Of.none = subst (Of 𝓢 (IsFront k)) (sym (hom-zero (nest 𝓟 𝓓 𝓢 k))) Of.none
+  nest-of (Of.more {f = x} c m q r) =
+      let same : k ≤ k = omega arith in
+      subst (Of 𝓢 (IsFront k)) (ap (λ y. 𝓢.ring.add y ((nest 𝓟 𝓓 𝓢 k).at x)) (sym (nest-term 𝓟 𝓓 𝓢 k c m)) ∙ sym ((nest 𝓟 𝓓 𝓢 k).add _ _)) (Of.more (𝓓.term c (back k m)) (front k m) (front-front k k same m) (nest-of r))
 
 module _ {K P S : Type 0} {𝓚 : CRing K} (𝓟 : TermRing 𝓚 monomials P) (𝓢 : TermRing 𝓟.ring monomials S) where
   -- the coefficients as constants of the inner polynomials

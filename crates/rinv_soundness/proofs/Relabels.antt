@@ -125,6 +125,16 @@ module _ (s : System) where
   differences-at (f ∷ a) (g ∷ b) zero d e h i = refl
   differences-at (f ∷ a) (g ∷ b) (suc k) d e h i = differences-at a b k d e (omega arith) (omega arith)
 
+  differences_few : (a b : List Poly) → length (differences s a b) ≤ length a
+  differences_few [] b = omega arith
+  differences_few (f ∷ a) [] = omega arith
+  differences_few (f ∷ a) (g ∷ b) = let h = differences_few a b in omega (arith, h)
+
+  -- the graph has no more generators than the space has variables
+  pub graph_few : length (graph s) ≤ space_count s
+  unfolding graph
+  graph_few = omega (arith, differences_few (variables s (group_count s) (space_count s)) (moved s (group_copy s 0) (variables s (group_count s + space_count s) (space_count s))), length-variables (group_count s) (space_count s))
+
   -- the class of a coordinate of a difference of two points
   pub difference-at : (a b : List Poly) (k : ℕ) → k < length a → k < length b → generator ops laws (differences s a b) k ≡ (poly_ring ops laws).add (at a k) ((poly_ring ops laws).neg (at b k))
   difference-at a b k h i =

@@ -1,0 +1,6 @@
+pub mod Orders
+pub mod Division
+pub mod Basis
+pub mod Settled
+pub mod Journal
+pub mod Count

@@ -1,0 +1,10 @@
+-- Orders of the monomials in some number of variables.
+use Rattle.std.specs.Prelude.{◌≡◌, ℕ, List, length}
+use Rattle.std.specs.declared.cmp.Ordering.{Ordering}
+use Rattle.std.specs.declared.cmp.Ordering.TheVariants.{Equal}
+use Rattle.rinv_algebra.specs.MonomialOrder.{MonoOrderLaws}
+
+-- an order of monomials in which two monomials in v variables tie only where they are equal
+pub record OrdersMonomials (cmp : List ℕ → List ℕ → Ordering) (v : ℕ) : Type 0 where
+  pub laws : MonoOrderLaws cmp
+  pub ties : (a b : List ℕ) → length a ≡ v → length b ≡ v → cmp a b ≡ Equal → a ≡ b
