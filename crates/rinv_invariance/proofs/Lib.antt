@@ -12,3 +12,4 @@ pub mod GraphPoints
 pub mod Movement
 pub mod MovedMaps
 pub mod MovedIdeal
+pub mod Parts
