@@ -2,7 +2,7 @@
 --   Extension 𝓣 𝓤        the coefficients of 𝓤 are an algebra over those of 𝓣; into is the map of the polynomials
 --   itself, extension    of 𝓣 to itself; by a map of the coefficients
 --   Linear e h           a map of the algebras that is linear over the coefficients of 𝓣
---   each                 it at each coefficient: each-term, each-add, each-zero, each-coefficient
+--   each                 it at each coefficient: each-term, each-add, each-zero, each-neg, each-coefficient
 --   each-into            it is linear over the polynomials of 𝓣
 --   each_member          it keeps the ideals that polynomials of 𝓣 generate
 use Rattle.std.proofs.Common.{◌≡◌, Bool, true, false, cond, refl, sym, ◌∙◌, ap, ap₂, subst}
@@ -64,6 +64,10 @@ module _ {K A B M P U V : Type 0} {𝓚 : CRing K} {𝓐 : CRing A} {𝓑 : CRin
   -- zero
   pub each-zero : each 𝓤.ring.zero ≡ 𝓥.ring.zero
   each-zero = adds-zero 𝓤 𝓥.ring each each-add
+
+  -- an opposite
+  pub each-neg : (x : U) → each (𝓤.ring.neg x) ≡ 𝓥.ring.neg (each x)
+  each-neg x = add_cancel 𝓥.ring _ _ (each x) (sym (each-add (𝓤.ring.neg x) x) ∙ ap each (𝓤.ring.neg_add x) ∙ each-zero ∙ sym (𝓥.ring.neg_add (each x)))
 
   -- no other additive map has these values at terms
   pub each-unique : (f : U → V) → ((x y : U) → f (𝓤.ring.add x y) ≡ 𝓥.ring.add (f x) (f y)) → ((a : A) (m : M) → f (𝓤.term a m) ≡ 𝓥.term (φ.at a) m) → (x : U) → f x ≡ each x

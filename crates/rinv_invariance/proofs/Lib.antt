@@ -13,3 +13,4 @@ pub mod Movement
 pub mod MovedMaps
 pub mod MovedIdeal
 pub mod Parts
+pub mod Crossed

@@ -17,7 +17,7 @@ use Rattle.rinv_soundness.proofs.FirstVariables.{front-front}
 use Rattle.rinv_soundness.proofs.Substituting.{move, move-constant}
 use Rattle.rinv_soundness.proofs.PlaceFacts.{nest-behind, back-front}
 use Rattle.rinv_defs.specs.System.{System, space_count}
-use Rattle.rinv_invariance.proofs.Extensions.{Extension, extension, Linear, each, each-add, each-term}
+use Rattle.rinv_invariance.proofs.Extensions.{Extension, extension, Linear, each, each-add, each-neg, each-zero, each-term, each-coefficient}
 use Rattle.rinv_invariance.proofs.Points.{Scalar, scalars, PolyClass, poly_terms}
 use Rattle.rinv_invariance.proofs.Movement.{Moving, moving, still, number, coordinates}
 use Rattle.rinv_invariance.proofs.MovedMaps.{moved_space, moved_both, shifted, moved_both-later, moved_both-first}
@@ -76,10 +76,25 @@ module _ (s : System) (b : Monomial) where
   unfolding parts
   parts-each u = refl
 
+  -- by coefficients
+  pub part-coefficient : (u : Moving s) (k : Monomial) → part ((moving s).coefficient u k) ≡ (moving s).coefficient (parts u) k
+  unfolding parts part_linear
+  part-coefficient u k = sym (each-coefficient part_linear u k)
+
   -- of a sum
   pub parts-add : (u v : Moving s) → parts ((moving s).ring.add u v) ≡ (moving s).ring.add (parts u) (parts v)
   unfolding parts
   parts-add = each-add part_linear
+
+  -- of zero
+  pub parts-zero : parts (moving s).ring.zero ≡ (moving s).ring.zero
+  unfolding parts
+  parts-zero = each-zero part_linear
+
+  -- of an opposite
+  pub parts-neg : (u : Moving s) → parts ((moving s).ring.neg u) ≡ (moving s).ring.neg (parts u)
+  unfolding parts
+  parts-neg = each-neg part_linear
 
   -- of a term
   pub parts-term : (y : PolyClass s.p) (m : Monomial) → parts ((moving s).term y m) ≡ (moving s).term (part y) m
