@@ -14,3 +14,5 @@ pub mod MovedMaps
 pub mod MovedIdeal
 pub mod Parts
 pub mod Crossed
+pub mod MovedBack
+pub mod ByValue
