@@ -7,9 +7,10 @@ use Rattle.std.proofs.Common.{◌≡◌, ◌⊎◌, ℕ, zero, suc, ◌+◌, ◌
 use Rattle.std.proofs.lemmas.List.{length-replicate}
 use mathlib.Core.Logic.{∥∥₁_prop, ∥∥₁_elim, ∥∥₁_map}
 use Rattle.rinv_algebra.specs.Monomial.{same_monomial}
-use Rattle.rinv_theory.proofs.CRing.{zero_mul, add_mul, CRing, Hom, compose, hom-zero}
+use Rattle.rinv_theory.proofs.CRing.{zero_mul, add_neg, add_mul, CRing, Hom, compose, hom-zero}
+use Rattle.rinv_theory.proofs.Solver.{ring, reading}
 use Rattle.rinv_theory.proofs.Monoid.{IsOne, Monomial, monomial, monomials, monomial_ind, monomial_sound, monomial-one, monoid_map-one}
-use Rattle.rinv_theory.proofs.TermRing.{TermRing, terms_ind, split_term, monomial-term}
+use Rattle.rinv_theory.proofs.TermRing.{TermRing, term-neg, terms_ind, split_term, monomial-term}
 use Rattle.rinv_theory.proofs.Universal.{relabel, relabel-term}
 use Rattle.rinv_theory.proofs.Substitution.{variable_monomial, monomial_by_variables, agree_variables}
 use Rattle.rinv_theory.proofs.Of.{Of, of-add, of-times, of-term, of-weaken}
@@ -57,10 +58,11 @@ front_more v w h m q = ap (front w) (sym q) ∙ front-front v w h m ∙ q
 
 module _ {K P : Type 0} {𝓚 : CRing K} (𝓣 : TermRing 𝓚 monomials P) where
   -- the variables past the first v are put 1
-  abbrev retract : ℕ → Hom 𝓣.ring 𝓣.ring
+  abbrev pub retract : ℕ → Hom 𝓣.ring 𝓣.ring
   retract v = relabel 𝓣 𝓣 (front v) (front-mul v)
 
-  retract-front : (v : ℕ) {x : P} → Of 𝓣 (IsFront v) x → (retract v).at x ≡ x
+  -- that changes no polynomial in the first v variables
+  pub retract-front : (v : ℕ) {x : P} → Of 𝓣 (IsFront v) x → (retract v).at x ≡ x
   retract-front v Of.none = hom-zero (retract v)
   retract-front v (Of.more c m q r) = (retract v).add _ _ ∙ ap₂ 𝓣.ring.add (relabel-term 𝓣 𝓣 (front v) (front-mul v) c m ∙ ap (𝓣.term c) q) (retract-front v r)
 
@@ -68,6 +70,14 @@ module _ {K P : Type 0} {𝓚 : CRing K} (𝓣 : TermRing 𝓚 monomials P) wher
   pub front-product : (v : ℕ) {x y : P} → Of 𝓣 (IsFront v) x → Of 𝓣 (IsFront v) y → Of 𝓣 (IsFront v) (𝓣.ring.mul x y)
   front-product v {y = y} Of.none r = subst (Of 𝓣 (IsFront v)) (sym (zero_mul 𝓣.ring y)) Of.none
   front-product v {y = y} (Of.more c m q s) r = subst (Of 𝓣 (IsFront v)) (sym (add_mul 𝓣.ring _ _ y)) (of-add 𝓣 (of-times 𝓣 c m (λ n p. front-mul v m n ∙ ap₂ monomials.mul q p) r) (front-product v s r))
+
+  -- the opposite of such a polynomial
+  pub front-neg : (v : ℕ) {x : P} → Of 𝓣 (IsFront v) x → Of 𝓣 (IsFront v) (𝓣.ring.neg x)
+  front-neg v Of.none = subst (Of 𝓣 (IsFront v)) (sym (add_neg 𝓣.ring 𝓣.ring.zero) ∙ 𝓣.ring.zero_add _) Of.none
+  front-neg v (Of.more {f = x} c m q r) = subst (Of 𝓣 (IsFront v)) (ap (λ y. 𝓣.ring.add y (𝓣.ring.neg x)) (term-neg 𝓣 c m) ∙ both (𝓣.term c m) x) (Of.more (𝓚.neg c) m q (front-neg v r))
+    where
+      both : (x y : P) → 𝓣.ring.add (𝓣.ring.neg x) (𝓣.ring.neg y) ≡ 𝓣.ring.neg (𝓣.ring.add x y)
+      both x y = ring 𝓣.ring (x ∷ y ∷ []) (search reading depth 30) refl
 
   -- a polynomial in the first v variables, moved by k
   pub moved_front : (k v : ℕ) {x : P} → Of 𝓣 (IsFront v) x → Of 𝓣 (IsFront (k + v)) ((relabel 𝓣 𝓣 (behind k) (behind-mul k)).at x)

@@ -46,10 +46,12 @@ module _ {E : Type 0} (o : RingOps E) (l : RingLaws o) (field : FieldLaws o) (n 
   abbrev pub read : Inner o l field → Over o l field
   read h = (over o l field).at ((nested o l field n).at h)
 
-  read-add : (x y : Inner o l field) → read ((poly_ring o l).add x y) ≡ (over_ring o l field).add (read x) (read y)
+  -- it keeps sums
+  pub read-add : (x y : Inner o l field) → read ((poly_ring o l).add x y) ≡ (over_ring o l field).add (read x) (read y)
   read-add x y = ap (over o l field).at ((nested o l field n).add x y) ∙ (over o l field).add _ _
 
-  read-mul : (x y : Inner o l field) → read ((poly_ring o l).mul x y) ≡ (over_ring o l field).mul (read x) (read y)
+  -- and products
+  pub read-mul : (x y : Inner o l field) → read ((poly_ring o l).mul x y) ≡ (over_ring o l field).mul (read x) (read y)
   read-mul x y = ap (over o l field).at ((nested o l field n).mul x y) ∙ (over o l field).mul _ _
 
   -- a polynomial in the space's variables is a constant
@@ -62,8 +64,9 @@ module _ {E : Type 0} (o : RingOps E) (l : RingLaws o) (field : FieldLaws o) (n 
   constant_over-one : constant_over o l field (poly_ring o l).one ≡ (over_ring o l field).one
   constant_over-one = sym (read-move _) ∙ ap read (move o l n).one ∙ ap (over o l field).at (nested o l field n).one ∙ (over o l field).one
 
-  twice : {d : Inner o l field} → InVariables n d → InVariables (2 * n) ((move o l n).at d)
-  twice {d} r = let e : n + n ≡ 2 * n = omega arith in subst (λ (v : ℕ). InVariables v ((move o l n).at d)) e (moved_front (polynomials o l) n n r)
+  -- a polynomial in the space's variables, behind Z
+  pub behind_z : {d : Inner o l field} → InVariables n d → InVariables (2 * n) ((move o l n).at d)
+  behind_z {d} r = let e : n + n ≡ 2 * n = omega arith in subst (λ (v : ℕ). InVariables v ((move o l n).at d)) e (moved_front (polynomials o l) n n r)
 
   -- what is asked of h itself
   pub multiple-of : {M : Inner o l field → Type 0} {h : Inner o l field} → InVariables (2 * n) h → M h → HasMultiple M (read h)
@@ -77,10 +80,12 @@ module _ {E : Type 0} (o : RingOps E) (l : RingLaws o) (field : FieldLaws o) (n 
     property = q;
   }
 
-  abbrev KeepsSums : (Inner o l field → Type 0) → Type 0
+  -- a property that sums keep
+  abbrev pub KeepsSums : (Inner o l field → Type 0) → Type 0
   KeepsSums M = (x y : Inner o l field) → M x → M y → M ((poly_ring o l).add x y)
 
-  abbrev KeepsMultiples : (Inner o l field → Type 0) → Type 0
+  -- a property that multiples keep
+  abbrev pub KeepsMultiples : (Inner o l field → Type 0) → Type 0
   KeepsMultiples M = (u x : Inner o l field) → M x → M ((poly_ring o l).mul u x)
 
   -- a sum
@@ -89,7 +94,7 @@ module _ {E : Type 0} (o : RingOps E) (l : RingLaws o) (field : FieldLaws o) (n 
     d = (poly_ring o l).mul a.d b.d;
     h = (poly_ring o l).add ((poly_ring o l).mul ((move o l n).at b.d) a.h) ((poly_ring o l).mul ((move o l n).at a.d) b.h);
     d_in_space = front-product (polynomials o l) n a.d_in_space b.d_in_space;
-    h_in_both = of-add (polynomials o l) (front-product (polynomials o l) (2 * n) (twice b.d_in_space) a.h_in_both) (front-product (polynomials o l) (2 * n) (twice a.d_in_space) b.h_in_both);
+    h_in_both = of-add (polynomials o l) (front-product (polynomials o l) (2 * n) (behind_z b.d_in_space) a.h_in_both) (front-product (polynomials o l) (2 * n) (behind_z a.d_in_space) b.h_in_both);
     nonzero = λ e. a.nonzero ((poly_domain o l field).no_divisors a.d b.d e b.nonzero);
     multiple =
         read-add _ _ ∙ ap₂ (over_ring o l field).add (read-mul _ _ ∙ ap₂ (over_ring o l field).mul (read-move b.d) a.multiple) (read-mul _ _ ∙ ap₂ (over_ring o l field).mul (read-move a.d) b.multiple)

@@ -8,3 +8,6 @@ pub mod OverFractions
 pub mod HasMultiples
 pub mod ExtendedIdeals
 pub mod ActionIdeals
+pub mod SymbolValues
+pub mod SpatialValues
+pub mod Ratios
