@@ -39,7 +39,7 @@ least_prop : (test : ℕ → Bool) → IsProp ((n : ℕ) × IsLeast test n)
 least_prop test p q = Σ_prop_path (λ n. hlevel Bool-set) (one_least test p.0 q.0 p.1 q.1)
 
 first_from : (test : ℕ → Bool) (k more : ℕ) → ((m : ℕ) → m < k → test m ≡ false) → test (k + more) ≡ true → (n : ℕ) × IsLeast test n
-first_from test k zero below e = let same : k + 0 ≡ k = omega arith in (k, sym (ap test same) ∙ e, below)
+first_from test k zero below e = let same : k + 0 ≡ k = omega arith in (k, (sym (ap test same) ∙ e, below))
 first_from test k (suc more) below e = go (test k) refl (λ f. first_from test (k + 1) more (up f) (ap test next ∙ e))
   where
     next : (k + 1) + more ≡ k + suc more
