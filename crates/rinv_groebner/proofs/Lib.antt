@@ -18,3 +18,9 @@ pub mod FirstVariables
 pub mod Greatest
 pub mod LeadingMonomials
 pub mod Compared
+pub mod ListElements
+pub mod Reducible
+pub mod StepClasses
+pub mod Paths
+pub mod NextSteps
+pub mod UniqueSteps

@@ -1,6 +1,6 @@
 -- Division by a list of polynomials: cancelling steps, one after another, until no term can be cancelled.
-use Rattle.std.specs.Prelude.{ℕ, ◌<◌, Bool, not, ◌&&◌, ◌==◌, List, [], ◌∷◌, ◌++◌, map, length, get_or, IsTrue, IsFalse, if◌then◌else◌}
-use Rattle.std.specs.List.{list_any, range_with_len}
+use Rattle.std.specs.Prelude.{◌≡◌, ℕ, ◌<◌, Bool, not, ◌&&◌, ◌==◌, List, [], ◌∷◌, ◌++◌, map, length, get_or, IsTrue, IsFalse, if◌then◌else◌}
+use Rattle.std.specs.List.{list_any, range_with_len, AllZip}
 use Rattle.std.specs.Ordering.{is_ge}
 use Rattle.std.specs.declared.cmp.Ordering.{Ordering}
 use Rattle.rinv_algebra.specs.Ring.{RingOps, IsSame}
@@ -21,6 +21,20 @@ quotient_at (s ∷ steps) k = if s.place == k then s.multiplier ∷ quotient_at 
 -- the quotients of the first n places
 abbrev pub quotients : {E : Type 0} → ℕ → List (Step E) → List (Polynomial E)
 quotients n steps = map (quotient_at steps) (range_with_len 0 n)
+
+-- two steps take the same multiple of the element at one place
+pub record IsSameStep {E : Type 0} (o : RingOps E) (s t : Step E) : Type 0 where
+  pub place : s.place ≡ t.place
+  pub monomial : IsTrue (same_monomial s.multiplier.0 t.multiplier.0)
+  pub coefficient : IsSame o s.multiplier.1 t.multiplier.1
+
+-- two lists of steps are the same, step by step
+abbrev pub AreSameSteps : {E : Type 0} → RingOps E → List (Step E) → List (Step E) → Type 0
+AreSameSteps o steps others = AllZip (IsSameStep o) steps others
+
+-- two lists of polynomials are the same, place by place
+abbrev pub AreSame : {E : Type 0} → RingOps E → List (Polynomial E) → List (Polynomial E) → Type 0
+AreSame o fs gs = AllZip (IsSame (poly_ops o)) fs gs
 
 module _ {E : Type 0} (o : RingOps E) (cmp : List ℕ → List ℕ → Ordering) where
   -- whether the leading monomial of h divides m; the zero polynomial has none

@@ -1,11 +1,10 @@
 -- Journals of Buchberger's algorithm: what was done with which pair, in turn.
 use Rattle.std.specs.Prelude.{◌≡◌, ℕ, ◌-◌, ◌^◌, ◌<◌, min, Bool, not, List, [], ◌∷◌, ◌++◌, map, filter, length, get_or, IsTrue, IsFalse, Option, Some, None}
-use Rattle.std.specs.List.{AllZip}
 use Rattle.std.specs.declared.cmp.Ordering.{Ordering}
-use Rattle.rinv_algebra.specs.Ring.{RingOps, IsSame}
-use Rattle.rinv_algebra.specs.Polynomial.{Polynomial, poly_ops, is_zero}
+use Rattle.rinv_algebra.specs.Ring.{RingOps}
+use Rattle.rinv_algebra.specs.Polynomial.{Polynomial, is_zero}
 use Rattle.rinv_algebra.specs.Leading.{s_polynomial}
-use Rattle.rinv_groebner.specs.Division.{Step, IsDivision, Steps}
+use Rattle.rinv_groebner.specs.Division.{Step, AreSame, IsDivision, Steps}
 use Rattle.rinv_groebner.specs.Settled.{is_listed, AreCoprime, HasChain}
 
 -- what became of a pair: its S-polynomial was divided, and the rest added at a place or zero; or nothing was to be done
@@ -29,15 +28,11 @@ pairs_of journal = map (λ e. (e.first, e.second)) journal
 abbrev pub kept_steps : ℕ → ℕ
 kept_steps n = min n (2 ^ 64 - 1)
 
+-- the polynomials that are not zero, in their order
+abbrev pub nonzeros : {E : Type 0} → RingOps E → List (Polynomial E) → List (Polynomial E)
+nonzeros o fs = filter (λ f. not (is_zero o f)) fs
+
 module _ {E : Type 0} (o : RingOps E) (cmp : List ℕ → List ℕ → Ordering) where
-  -- two lists are the same place by place
-  abbrev pub AreSame : List (Polynomial E) → List (Polynomial E) → Type 0
-  AreSame fs gs = AllZip (IsSame (poly_ops o)) fs gs
-
-  -- the polynomials that are not zero, in their order
-  abbrev pub nonzeros : List (Polynomial E) → List (Polynomial E)
-  nonzeros fs = filter (λ f. not (is_zero o f)) fs
-
   -- two places of the list, the first below the second, whose pair is in no entry
   pub record IsOpen (journal : List Entry) (list : List (Polynomial E)) (i j : ℕ) : Type 0 where
     pub ascending : i < j
@@ -65,7 +60,7 @@ module _ {E : Type 0} (o : RingOps E) (cmp : List ℕ → List ℕ → Ordering)
 
   -- the entries, taken in order from the nonzero polynomials given, make this list
   pub data Journal (given : List (Polynomial E)) : List Entry → List (Polynomial E) → Type 0 where
-    begin : (list : List (Polynomial E)) → AreSame list (nonzeros given) → Journal given [] list
+    begin : (list : List (Polynomial E)) → AreSame o list (nonzeros o given) → Journal given [] list
     enter : (journal : List Entry) (list : List (Polynomial E)) (e : Entry) (made : List (Polynomial E)) → Journal given journal list → IsEntry journal list e made → Journal given (journal ++ e ∷ []) made
 
   -- each pair of the list has its entry

@@ -3,9 +3,10 @@
 --   HasMultiple n M f    d and h, with the property M of h
 --   multiple-of          what is asked of h itself
 --   multiple-add, multiple-mul    sums, and products, where M is kept by sums and multiples
+--   crossed P Q          P(Z)*Q(x) - P(x)*Q(Z)
 --   multiple-lowest      where h is zero for want of certain monomials in Z, so is f
 --   multiple-front       f has no other monomials than those in the first n variables
-use Rattle.std.proofs.Common.{◌≡◌, ℕ, ◌+◌, ◌*◌, [], ◌∷◌, refl, sym, ◌∙◌, ap, ap₂, subst, arith}
+use Rattle.std.proofs.Common.{◌≡◌, ℕ, ◌≤◌, ◌+◌, ◌*◌, [], ◌∷◌, refl, sym, ◌∙◌, ap, ap₂, subst, arith}
 use mathlib.Core.Logic.{∥∥₁_elim}
 use Rattle.rinv_algebra.specs.Ring.{RingOps, RingLaws, FieldLaws}
 use Rattle.rinv_algebra.specs.Polynomial.{poly_ops}
@@ -22,7 +23,7 @@ use Rattle.rinv_theory.proofs.Places.{front, back}
 use Rattle.rinv_theory.proofs.Variables.{IsFront}
 use Rattle.rinv_theory.proofs.Fields.{poly_domain, fraction_laws, fraction_field, class_domain}
 use Rattle.rinv_theory.proofs.Fractions.{polynomial_fractions, constant_cancels}
-use Rattle.rinv_soundness.proofs.FirstVariables.{front-product, moved_front, constant_front}
+use Rattle.rinv_soundness.proofs.FirstVariables.{front-product, front-neg, more_variables, moved_front, constant_front}
 use Rattle.rinv_soundness.proofs.Substituting.{move}
 use Rattle.rinv_soundness.proofs.PlaceFacts.{nest-behind, nest-coefficient, nest-of}
 use Rattle.rinv_soundness.proofs.OverFractions.{Inner, Over, over_ring, nested, into, over, constant_over, over-term, over-coefficient, constant_over-coefficient}
@@ -67,6 +68,17 @@ module _ {E : Type 0} (o : RingOps E) (l : RingLaws o) (field : FieldLaws o) (n 
   -- a polynomial in the space's variables, behind Z
   pub behind_z : {d : Inner o l field} → InVariables n d → InVariables (2 * n) ((move o l n).at d)
   behind_z {d} r = let e : n + n ≡ 2 * n = omega arith in subst (λ (v : ℕ). InVariables v ((move o l n).at d)) e (moved_front (polynomials o l) n n r)
+
+  -- P(Z)*Q(x) - P(x)*Q(Z)
+  abbrev pub crossed : Inner o l field → Inner o l field → Inner o l field
+  crossed P Q = (poly_ring o l).add ((poly_ring o l).mul P ((move o l n).at Q)) ((poly_ring o l).neg ((poly_ring o l).mul ((move o l n).at P) Q))
+
+  -- it is in Z and the space's variables
+  pub crossed_in : {P Q : Inner o l field} → InVariables n P → InVariables n Q → InVariables (2 * n) (crossed P Q)
+  crossed_in {P} {Q} r t =
+      let more : n ≤ 2 * n = omega arith in
+      of-add (polynomials o l) (front-product (polynomials o l) (2 * n) (more_variables (polynomials o l) n (2 * n) more r) (behind_z t))
+      (front-neg (polynomials o l) (2 * n) (front-product (polynomials o l) (2 * n) (behind_z r) (more_variables (polynomials o l) n (2 * n) more t)))
 
   -- what is asked of h itself
   pub multiple-of : {M : Inner o l field → Type 0} {h : Inner o l field} → InVariables (2 * n) h → M h → HasMultiple M (read h)

@@ -11,3 +11,5 @@ pub mod ActionIdeals
 pub mod SymbolValues
 pub mod SpatialValues
 pub mod Ratios
+pub mod GraphImages
+pub mod LowestMembers

@@ -3,7 +3,7 @@
 --   ratio                at each monomial the coefficients of the two rests have values in the ratio of P and Q
 --   rest-vanishes        where Q(Z) has a multiple in the ideal, the values of its rest are zero
 --   vanishes-rest        and the other way round
-use Rattle.std.proofs.Common.{◌≡◌, ℕ, ◌*◌, ◌<◌, ◌≤◌, List, [], ◌∷◌, length, get_or, refl, sym, ◌∙◌, ap, ap₂, subst, arith}
+use Rattle.std.proofs.Common.{◌≡◌, ℕ, ◌*◌, ◌<◌, List, [], ◌∷◌, length, get_or, refl, sym, ◌∙◌, ap, ap₂, subst}
 use mathlib.Core.Logic.{∥∥₁_prop, ∥∥₁_elim, ∥∥₁_map}
 use Rattle.rinv_algebra.specs.Ring.{RingOps, RingLaws, FieldLaws}
 use Rattle.rinv_algebra.specs.Polynomial.{poly_ops}
@@ -16,15 +16,14 @@ use Rattle.rinv_theory.proofs.Monoid.{Monomial, Monoid, monomials}
 use Rattle.rinv_theory.proofs.TermRing.{TermRing, constants, coefficient-zero, coefficient-neg, term-neg}
 use Rattle.rinv_theory.proofs.Polynomials.{polynomials, poly_ring, term_at, coefficient_at}
 use Rattle.rinv_theory.proofs.Universal.{change, change-term}
-use Rattle.rinv_theory.proofs.Of.{Of, of-add}
+use Rattle.rinv_theory.proofs.Of.{Of}
 use Rattle.rinv_theory.proofs.Ideals.{In}
 use Rattle.rinv_theory.proofs.Variables.{IsFront}
 use Rattle.rinv_theory.proofs.Fields.{fraction_laws}
-use Rattle.rinv_soundness.proofs.FirstVariables.{front-product, front-neg, constant_front, more_variables, retract-front}
-use Rattle.rinv_soundness.proofs.Substituting.{move}
+use Rattle.rinv_soundness.proofs.FirstVariables.{constant_front, retract-front}
 use Rattle.rinv_soundness.proofs.PlaceFacts.{nest-front}
 use Rattle.rinv_soundness.proofs.OverFractions.{Inner, Nested, Over, over_ring, nested, into, over, constant_over, constant_over-coefficient, to_z}
-use Rattle.rinv_soundness.proofs.HasMultiples.{InVariables, behind_z, HasMultiple, KeepsSums, KeepsMultiples, read, read-add, read-mul, read-move, multiple-of, multiple-add, multiple-mul}
+use Rattle.rinv_soundness.proofs.HasMultiples.{InVariables, crossed, crossed_in, behind_z, HasMultiple, KeepsSums, KeepsMultiples, read, read-add, read-mul, read-move, multiple-of, multiple-add, multiple-mul}
 use Rattle.rinv_soundness.proofs.SymbolValues.{value_hom, values, values-coefficient, values-to_z}
 use Rattle.rinv_soundness.proofs.SpatialValues.{InSpace, Any, spatial, relations-multiple}
 
@@ -100,24 +99,14 @@ module _ {E : Type 0} (o : RingOps E) (l : RingLaws o) (field : FieldLaws o) (n 
       regroup : (p q f g a b : Over o l field) → f ⊗ q ⊕ ⊖ (p ⊗ g) ⊕ (⊖ (q ⊗ (f ⊕ ⊖ a)) ⊕ p ⊗ (g ⊕ ⊖ b)) ≡ q ⊗ a ⊕ ⊖ (p ⊗ b)
       regroup p q f g a b = ring (over_ring o l field) (p ∷ q ∷ f ∷ g ∷ a ∷ b ∷ []) (search reading depth 30) refl
 
-      -- P(Z)*Q - P*Q(Z)
-      abbrev pub crossed : Inner o l field
-      crossed = (poly_ring o l).add ((poly_ring o l).mul P ((move o l n).at Q)) ((poly_ring o l).neg ((poly_ring o l).mul ((move o l n).at P) Q))
-
-      read-crossed : read o l field n crossed ≡ val ((to_z o l field).at P) ⊗ constant_over o l field Q ⊕ ⊖ (constant_over o l field P ⊗ val ((to_z o l field).at Q))
+      read-crossed : read o l field n (crossed o l field n P Q) ≡ val ((to_z o l field).at P) ⊗ constant_over o l field Q ⊕ ⊖ (constant_over o l field P ⊗ val ((to_z o l field).at Q))
       read-crossed =
           read-add o l field n _ _
           ∙ ap₂ ◌⊕◌ (read-mul o l field n _ _ ∙ ap₂ ◌⊗◌ (read_z P_in) (read-move o l field n Q)) (ap (over o l field).at (hom-neg (nested o l field n) _) ∙ hom-neg (over o l field) _ ∙ ap ⊖◌ (read-mul o l field n _ _ ∙ ap₂ ◌⊗◌ (read-move o l field n P) (read_z Q_in)))
 
-      crossed_in : InVariables o l field n (2 * n) crossed
-      crossed_in =
-          let more : n ≤ 2 * n = omega arith in
-          of-add (polynomials o l) (front-product (polynomials o l) (2 * n) (more_variables (polynomials o l) n (2 * n) more P_in) (behind_z o l field n Q_in))
-          (front-neg (polynomials o l) (2 * n) (front-product (polynomials o l) (2 * n) (behind_z o l field n P_in) (more_variables (polynomials o l) n (2 * n) more Q_in)))
-
-      difference-multiple : M crossed → ∥ Has difference ∥₁
+      difference-multiple : M (crossed o l field n P Q) → ∥ Has difference ∥₁
       difference-multiple inv = ∥∥₁_elim (rest-multiple (in_z_front P_in) rest_P) ∥∥₁_prop (λ x. ∥∥₁_map (rest-multiple (in_z_front Q_in) rest_Q) (λ y. subst Has (regroup _ _ _ _ _ _)
-          (multiple-add o l field n sums multiples (subst Has read-crossed (multiple-of o l field n crossed_in inv))
+          (multiple-add o l field n sums multiples (subst Has read-crossed (multiple-of o l field n (crossed_in o l field n P_in Q_in) inv))
           (multiple-add o l field n sums multiples (multiple-neg (multiple-mul o l field n multiples (constant-any Q_in) x)) (multiple-mul o l field n multiples (constant-any P_in) y)))))
 
       difference-coefficient : (m : Monomial) → coefficient_at (fraction_ops o) (fraction_laws o l field) difference m ≡ Rational.add (Rational.mul ((into o l field).at Q) (coefficient_at (fraction_ops o) (fraction_laws o l field) (val a) m)) (Rational.neg (Rational.mul ((into o l field).at P) (coefficient_at (fraction_ops o) (fraction_laws o l field) (val b) m)))
@@ -125,7 +114,7 @@ module _ {E : Type 0} (o : RingOps E) (l : RingLaws o) (field : FieldLaws o) (n 
           (polynomials (fraction_ops o) (fraction_laws o l field)).coefficient_add _ _ m
           ∙ ap₂ Rational.add (constant_over-coefficient o l field Q _ m) (coefficient-neg (polynomials (fraction_ops o) (fraction_laws o l field)) _ m ∙ ap Rational.neg (constant_over-coefficient o l field P _ m))
 
-      difference-zero : M crossed → difference ≡ (over_ring o l field).zero
+      difference-zero : M (crossed o l field n P Q) → difference ≡ (over_ring o l field).zero
       difference-zero inv = ∥∥₁_elim (difference-multiple inv) ((over_ring o l field).is_set _ _) (λ d. lowest difference d (λ m q.
           difference-coefficient m ∙ ap₂ (λ x y. Rational.add (Rational.mul ((into o l field).at Q) x) (Rational.neg (Rational.mul ((into o l field).at P) y))) (reduced-value rest_P m q) (reduced-value rest_Q m q) ∙ nothing _ _))
         where
@@ -133,7 +122,7 @@ module _ {E : Type 0} (o : RingOps E) (l : RingLaws o) (field : FieldLaws o) (n 
           nothing x y = ring Rational (x ∷ y ∷ []) (search reading depth 30) refl
 
       -- the coefficients of the rests have values in the ratio of P and Q
-      pub ratio : M crossed → (m : Monomial) → Rational.mul ((value_hom o l field c).at (coefficient_at (poly_ops o) (poly_laws o l) a m)) ((into o l field).at Q) ≡ Rational.mul ((into o l field).at P) ((value_hom o l field c).at (coefficient_at (poly_ops o) (poly_laws o l) b m))
+      pub ratio : M (crossed o l field n P Q) → (m : Monomial) → Rational.mul ((value_hom o l field c).at (coefficient_at (poly_ops o) (poly_laws o l) a m)) ((into o l field).at Q) ≡ Rational.mul ((into o l field).at P) ((value_hom o l field c).at (coefficient_at (poly_ops o) (poly_laws o l) b m))
       ratio inv m =
           Rational.mul_comm _ _ ∙ ap (Rational.mul ((into o l field).at Q)) (sym (values-coefficient o l field c a m))
           ∙ add_cancel Rational _ _ _ (sym (difference-coefficient m) ∙ ap (λ x. coefficient_at (fraction_ops o) (fraction_laws o l field) x m) (difference-zero inv) ∙ coefficient-zero (polynomials (fraction_ops o) (fraction_laws o l field)) m ∙ sym (add_neg Rational _))
