@@ -16,3 +16,4 @@ pub mod Parts
 pub mod Crossed
 pub mod MovedBack
 pub mod ByValue
+pub mod Flattened
