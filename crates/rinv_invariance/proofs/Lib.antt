@@ -17,3 +17,5 @@ pub mod Crossed
 pub mod MovedBack
 pub mod ByValue
 pub mod Flattened
+pub mod StandardMembers
+pub mod Coefficients
