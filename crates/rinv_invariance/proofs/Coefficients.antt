@@ -33,6 +33,7 @@ use Rattle.rinv_defs.specs.Laws.{AllLawsHold}
 use Rattle.rinv_defs.specs.Invariant.{Fraction, IsFraction, IsInvariant}
 use Rattle.rinv_defs.specs.Generators.{rational_ops}
 use Rattle.rinv_defs.specs.Extended.{Relation, relation_poly, action_ideal, is_reducible, InExtendedIdeal, IsReducedBasis}
+use Rattle.rinv_invariance.proofs.RelationClasses.{rationals, rational, coefficient_over, tail_class, relation-coefficient, tail-zero}
 use Rattle.rinv_invariance.proofs.Flatness.{Multiples}
 use Rattle.rinv_invariance.proofs.Points.{PolyClass, poly_terms, poly_class}
 use Rattle.rinv_invariance.proofs.GroupLaws.{laws_at}
@@ -48,27 +49,6 @@ use Rattle.rinv_invariance.proofs.Flattened.{flat_member}
 use Rattle.rinv_invariance.proofs.StandardMembers.{retracted, retracted-number, retracted-kept, standard_zero}
 
 module _ (s : System) where
-  abbrev Rational : CRing (Class (rational_ops s.p))
-  Rational = class_ring (rational_ops s.p) (fraction_laws (ops s) (laws s) (field s))
-
-  abbrev whole : PolyClass s.p → Class (rational_ops s.p)
-  whole x = (into (ops s) (laws s) (field s)).at x
-
-  -- a coefficient of a polynomial over fractions
-  abbrev at : Class (poly_ops (rational_ops s.p)) → Monomial → Class (rational_ops s.p)
-  at x m = coefficient_at (rational_ops s.p) (fraction_laws (ops s) (laws s) (field s)) x m
-
-  abbrev tail_class : Relation → Class (poly_ops (rational_ops s.p))
-  tail_class r = class (poly_ops (rational_ops s.p)) r.tail
-
-  -- a coefficient of a relation
-  relation-coefficient : (r : Relation) (b : Monomial) → at (class (poly_ops (rational_ops s.p)) (relation_poly s r)) b ≡ Rational.add (cond (monomials.same (monomial r.lead) b) Rational.one Rational.zero) (Rational.neg (at (tail_class r) b))
-  relation-coefficient r b =
-      let q = rational_ops s.p in
-      let m = fraction_laws (ops s) (laws s) (field s) in
-      ap (λ x. at x b) (class-cons q m q.one r.lead (opposite q r.tail) ∙ ap₂ (polynomials q m).ring.add (ap (λ c. (polynomials q m).term c (monomial r.lead)) (class-one q m)) (class-neg (poly_ops q) (poly_laws q m) r.tail))
-      ∙ (polynomials q m).coefficient_add _ _ b ∙ ap₂ Rational.add ((polynomials q m).coefficient_term Rational.one (monomial r.lead) b) (coefficient-neg (polynomials q m) (tail_class r) b)
-
   module _ (r : Relation) (a : Extended s (action_ideal s) (class (poly_ops (rational_ops s.p)) (relation_poly s r))) where
     -- the denominator at the lead, and zero elsewhere
     abbrev at_lead : Monomial → PolyClass s.p
@@ -78,17 +58,17 @@ module _ (s : System) where
     abbrev tail_part : Monomial → PolyClass s.p
     tail_part b = (poly_terms s.p).ring.add (at_lead b) ((poly_terms s.p).ring.neg (part s b a.h))
 
-    tail_part-whole : (b : Monomial) → whole (tail_part b) ≡ Rational.mul (whole a.d) (at (tail_class r) b)
+    tail_part-whole : (b : Monomial) → rational s (tail_part b) ≡ (rationals s).mul (rational s a.d) (coefficient_over s (tail_class s r) b)
     tail_part-whole b =
-        (into (ops s) (laws s) (field s)).add _ _ ∙ ap₂ Rational.add (chosen (monomials.same (monomial r.lead) b)) (hom-neg (into (ops s) (laws s) (field s)) _ ∙ ap Rational.neg (ap whole (part-nested s b a.h) ∙ sym (multiple-coefficient (ops s) (laws s) (field s) (space_count s) a b) ∙ ap (Rational.mul (whole a.d)) (relation-coefficient r b)))
+        (into (ops s) (laws s) (field s)).add _ _ ∙ ap₂ (rationals s).add (chosen (monomials.same (monomial r.lead) b)) (hom-neg (into (ops s) (laws s) (field s)) _ ∙ ap (rationals s).neg (ap (rational s) (part-nested s b a.h) ∙ sym (multiple-coefficient (ops s) (laws s) (field s) (space_count s) a b) ∙ ap ((rationals s).mul (rational s a.d)) (relation-coefficient s r b)))
         ∙ take_off _ _ _
       where
-        chosen : (t : Bool) → whole (cond t a.d (poly_terms s.p).ring.zero) ≡ Rational.mul (whole a.d) (cond t Rational.one Rational.zero)
-        chosen true = sym (Rational.mul_comm _ _ ∙ Rational.one_mul _)
-        chosen false = hom-zero (into (ops s) (laws s) (field s)) ∙ sym (mul_zero Rational _)
+        chosen : (t : Bool) → rational s (cond t a.d (poly_terms s.p).ring.zero) ≡ (rationals s).mul (rational s a.d) (cond t (rationals s).one (rationals s).zero)
+        chosen true = sym ((rationals s).mul_comm _ _ ∙ (rationals s).one_mul _)
+        chosen false = hom-zero (into (ops s) (laws s) (field s)) ∙ sym (mul_zero (rationals s) _)
 
-        take_off : (d c t : Class (rational_ops s.p)) → Rational.add (Rational.mul d c) (Rational.neg (Rational.mul d (Rational.add c (Rational.neg t)))) ≡ Rational.mul d t
-        take_off d c t = ring Rational (d ∷ c ∷ t ∷ []) (search reading depth 30) refl
+        take_off : (d c t : Class (rational_ops s.p)) → (rationals s).add ((rationals s).mul d c) ((rationals s).neg ((rationals s).mul d ((rationals s).add c ((rationals s).neg t)))) ≡ (rationals s).mul d t
+        take_off d c t = ring (rationals s) (d ∷ c ∷ t ∷ []) (search reading depth 30) refl
 
     -- crosswise, the denominator itself is nothing
     turned-lead : (t : Bool) → turned s a.d (cond t a.d (poly_terms s.p).ring.zero) ≡ (moving s).ring.zero
@@ -111,11 +91,11 @@ module _ (s : System) where
         spread d e x y u v = ring (moving s).ring (d ∷ e ∷ x ∷ y ∷ u ∷ v ∷ []) (search reading depth 30) refl
 
     -- where the tail lacks a monomial, the part there is nothing crosswise
-    lacking : (b : Monomial) → at (tail_class r) b ≡ Rational.zero → turned s a.d (part s b a.h) ≡ (moving s).ring.zero
+    lacking : (b : Monomial) → coefficient_over s (tail_class s r) b ≡ (rationals s).zero → turned s a.d (part s b a.h) ≡ (moving s).ring.zero
     lacking b e = ap (turned s a.d) (only_lead _ _ tail_zero) ∙ turned-lead (monomials.same (monomial r.lead) b)
       where
         tail_zero : tail_part b ≡ (poly_terms s.p).ring.zero
-        tail_zero = (polynomial_fractions (ops s) (laws s) (field s)).injective _ _ (tail_part-whole b ∙ ap (Rational.mul (whole a.d)) e ∙ mul_zero Rational _ ∙ sym (hom-zero (into (ops s) (laws s) (field s))))
+        tail_zero = (polynomial_fractions (ops s) (laws s) (field s)).injective _ _ (tail_part-whole b ∙ ap ((rationals s).mul (rational s a.d)) e ∙ mul_zero (rationals s) _ ∙ sym (hom-zero (into (ops s) (laws s) (field s))))
 
         only_lead : (x y : PolyClass s.p) → (poly_terms s.p).ring.add x ((poly_terms s.p).ring.neg y) ≡ (poly_terms s.p).ring.zero → y ≡ x
         only_lead x y e = sym ((poly_terms s.p).ring.zero_add y) ∙ ap (λ z. (poly_terms s.p).ring.add z y) (sym e) ∙ back_again x y
@@ -144,12 +124,8 @@ module _ (s : System) where
         a : Extended s (action_ideal s) (class (poly_ops (rational_ops s.p)) (relation_poly s r))
         a = extended-has s (relation_poly s r) extended
 
-        tail-zero : (e : List ℕ) (t : Bool) → (rational_ops s.p).same (coefficient (rational_ops s.p) r.tail e) (rational_ops s.p).zero ≡ t → IsTrue (is_reducible rs e) → at (tail_class r) (monomial e) ≡ Rational.zero
-        tail-zero e true q i = class-coefficient (rational_ops s.p) (fraction_laws (ops s) (laws s) (field s)) r.tail e ∙ class_sound (rational_ops s.p) (fraction_laws (ops s) (laws s) (field s)) _ _ q ∙ class-zero (rational_ops s.p) (fraction_laws (ops s) (laws s) (field s))
-        tail-zero e false q i = absurd (true≢false (sym i ∙ reduced e (ap not q)))
-
         lacks : (b : Monomial) → IsReducibleBy (map (λ r. r.lead) rs) b → turned s a.d (part s b a.h) ≡ (moving s).ring.zero
-        lacks b (e, at_b, divided) = lacking r a b (ap (at (tail_class r)) (sym at_b) ∙ tail-zero e _ refl (sym (any-map (λ r. r.lead) _ rs) ∙ divided))
+        lacks b (e, at_b, divided) = lacking r a b (ap (coefficient_over s (tail_class s r)) (sym at_b) ∙ tail-zero s rs r reduced e (sym (any-map (λ r. r.lead) _ rs) ∙ divided))
 
         parts : ∥ In (moving s).ring (Multiples (coordinates s) (group_ideal s)) (turned s a.d (part s (monomial m) a.h)) ∥₁
         parts = parts_member s (retracted s) (retracted-number s) (retracted-kept s) (moved_all-later s form) (λ x i. moved_member s form (section_front s system) (laws_at s form (ideal.κ s) all_laws) i)
@@ -157,13 +133,13 @@ module _ (s : System) where
 
         equal : (poly_terms s.p).ring.mul (poly_class s.p f.0) a.d ≡ (poly_terms s.p).ring.mul (tail_part r a (monomial m)) (poly_class s.p f.1)
         equal = (polynomial_fractions (ops s) (laws s) (field s)).injective _ _ (
-            (into (ops s) (laws s) (field s)).mul _ _ ∙ ap (λ x. Rational.mul x (whole a.d)) (sym (fraction-times (ops s) (laws s) (field s) (space_count s) f is_fraction.nonzero)) ∙ turn _ _ _
-            ∙ ap (λ x. Rational.mul x (whole (poly_class s.p f.1))) (ap (Rational.mul (whole a.d)) same_value ∙ sym (tail_part-whole r a (monomial m))) ∙ sym ((into (ops s) (laws s) (field s)).mul _ _))
+            (into (ops s) (laws s) (field s)).mul _ _ ∙ ap (λ x. (rationals s).mul x (rational s a.d)) (sym (fraction-times (ops s) (laws s) (field s) (space_count s) f is_fraction.nonzero)) ∙ turn _ _ _
+            ∙ ap (λ x. (rationals s).mul x (rational s (poly_class s.p f.1))) (ap ((rationals s).mul (rational s a.d)) same_value ∙ sym (tail_part-whole r a (monomial m))) ∙ sym ((into (ops s) (laws s) (field s)).mul _ _))
           where
-            turn : (d f w : Class (rational_ops s.p)) → Rational.mul (Rational.mul d f) w ≡ Rational.mul (Rational.mul w f) d
-            turn d f w = ring Rational (d ∷ f ∷ w ∷ []) (search reading depth 30) refl
+            turn : (d f w : Class (rational_ops s.p)) → (rationals s).mul ((rationals s).mul d f) w ≡ (rationals s).mul ((rationals s).mul w f) d
+            turn d f w = ring (rationals s) (d ∷ f ∷ w ∷ []) (search reading depth 30) refl
 
-            same_value : class (rational_ops s.p) f ≡ at (tail_class r) (monomial m)
+            same_value : class (rational_ops s.p) f ≡ coefficient_over s (tail_class s r) (monomial m)
             same_value = class_sound (rational_ops s.p) (fraction_laws (ops s) (laws s) (field s)) _ _ value ∙ sym (class-coefficient (rational_ops s.p) (fraction_laws (ops s) (laws s) (field s)) r.tail m)
 
     each_invariant : (rest : List Relation) → All (λ r. InExtendedIdeal s (relation_poly s r)) rest → All (λ r. (m : List ℕ) → IsTrue (has_monomial (rational_ops s.p) r.tail m) → IsFalse (is_reducible rs m)) rest → All IsInvariantAt rest

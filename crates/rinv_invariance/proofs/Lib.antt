@@ -18,4 +18,6 @@ pub mod MovedBack
 pub mod ByValue
 pub mod Flattened
 pub mod StandardMembers
+pub mod RelationClasses
 pub mod Coefficients
+pub mod SameBases

@@ -2,9 +2,10 @@
 //! The functions do nothing: each contract is a theorem over the definitions.
 #![tactic(auto)]
 
-ghost use Rattle.std.specs.Prelude.{ℕ, List, All};
+ghost use Rattle.std.specs.Prelude.{ℕ, List, All, Contains, IsTrue};
 ghost use Rattle.rinv_algebra.specs.Ring.{IsSame};
-ghost use Rattle.rinv_algebra.specs.Polynomial.{coefficient};
+ghost use Rattle.rinv_algebra.specs.Monomial.{same_monomial};
+ghost use Rattle.rinv_algebra.specs.Polynomial.{poly_ops, coefficient};
 ghost use Rattle.rinv_defs.specs.System.{System};
 ghost use Rattle.rinv_defs.specs.SystemForm.{IsSystem};
 ghost use Rattle.rinv_defs.specs.Laws.{AllLawsHold};
@@ -16,4 +17,10 @@ ghost use Rattle.rinv_defs.specs.Extended.{Relation, IsReducedBasis};
 pub fn reduced_coefficients_are_invariant()
     ensures { (s : System) (rs : List Relation) → IsSystem s → AllLawsHold s → IsReducedBasis s rs →
         All (λ r. (m : List ℕ) (f : Fraction) → IsFraction s f → IsSame (rational_ops s.p) f (coefficient (rational_ops s.p) r.tail m) → IsInvariant s f) rs }
+{}
+
+/// Two reduced bases of one extended ideal are the same, up to order: each relation of the one is in the other, its tail up to values.
+pub fn reduced_basis_is_unique()
+    ensures { (s : System) (rs qs : List Relation) → IsReducedBasis s rs → IsReducedBasis s qs →
+        All (λ r. (q : Relation) × Contains qs q × IsTrue (same_monomial r.lead q.lead) × IsSame (poly_ops (rational_ops s.p)) r.tail q.tail) rs }
 {}
