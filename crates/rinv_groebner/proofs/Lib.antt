@@ -24,3 +24,13 @@ pub mod StepClasses
 pub mod Paths
 pub mod NextSteps
 pub mod UniqueSteps
+pub mod StepSums
+pub mod StepMultiples
+pub mod GoodPairs
+pub mod PairsOfLists
+pub mod MembersOfLists
+pub mod ListBases
+pub mod SettledLists
+pub mod DivisionLaws
+pub mod Falls
+pub mod Ascents

@@ -4,15 +4,20 @@
 --   Divisor m n          m times some monomial is n
 --   divisor-divides, divides-divisor    lists divide one another where their monomials do
 --   lcm_left, lcm_right, lcm_least    a least common multiple
+--   front_at, front_from, lcm-front, quotient-front    monomials in the first v variables
 --   coprime_multiples    where two multiples of coprime monomials are equal, each has the other monomial for a factor
-use Rattle.std.proofs.Common.{◌≡◌, ◌⊎◌, ℕ, zero, suc, ◌+◌, ◌-◌, ◌≤◌, max, Bool, true, false, List, [], ◌∷◌, get_or, refl, sym, ◌∙◌, ap, ap₂, arith, inl, inr, IsTrue}
+use Rattle.std.proofs.Common.{◌≡◌, ◌⊎◌, ℕ, zero, suc, ◌+◌, ◌-◌, ◌<◌, ◌≤◌, max, Bool, true, false, List, [], ◌∷◌, length-take, take, get_or, refl, sym, ◌∙◌, ap, ap₂, arith, inl, inr, IsTrue}
 use Rattle.std.specs.Prelude.{nat_le}
+use Rattle.std.proofs.lemmas.Bool.{cases_Bool}
+use Rattle.std.proofs.lemmas.List.{get_or-take, get_or_past}
 use Rattle.std.proofs.lemmas.Bool.Decides.{nat_tests}
 use mathlib.Core.Bool.{Bool-set}
 use mathlib.Core.HLevel.{Σ_prop_path}
 use Rattle.rinv_algebra.specs.Monomial.{same_monomial, monomial_product, divides, quotient, lcm, coprime}
 use Rattle.rinv_algebra.proofs.MonomialLaws.{get_or-product, same_at, same_from}
 use Rattle.rinv_theory.proofs.Monoid.{IsOne, Monomial, monomial, monomials, monomial_ind, monomial_sound, monomial_exact, monomial-mul}
+use Rattle.rinv_theory.proofs.Places.{front-list}
+use Rattle.rinv_theory.proofs.Variables.{IsFront}
 
 -- ---- at a place
 
@@ -129,3 +134,29 @@ coprime_multiples a b h s t e = whole (monomial_ind (λ s. (t : Monomial) → mo
 
     whole : Divisor (monomial b) s → (w : Monomial) × (monomials.mul w (monomial b) ≡ s) × (monomials.mul w (monomial a) ≡ t)
     whole (w, p) = (w, p, other w p)
+
+-- ---- the first v variables
+
+-- a monomial in the first v variables has no other exponents
+pub front_at : (v : ℕ) (a : List ℕ) → IsFront v (monomial a) → (k : ℕ) → v ≤ k → get_or a k 0 ≡ 0
+front_at v a e k past =
+    let len = length-take v a in
+    same_at a (take v a) (monomial_exact a (take v a) (sym e ∙ front-list v a)) k ∙ get_or_past (take v a) k 0 (omega (arith, len, past))
+
+-- and the other way round
+pub front_from : (v : ℕ) (a : List ℕ) → ((k : ℕ) → v ≤ k → get_or a k 0 ≡ 0) → IsFront v (monomial a)
+front_from v a h = front-list v a ∙ monomial_sound (take v a) a (same_from (take v a) a (λ k. elim (cases_Bool (nat_le v k)) [
+  | inl high ↦
+      let past : v ≤ k = grind (arith, nat_tests, high) in
+      let len = length-take v a in
+      get_or_past (take v a) k 0 (omega (arith, len, past)) ∙ sym (h k past)
+  | inr low ↦ let inside : k < v = grind (arith, nat_tests, low) in get_or-take v a k 0 inside
+]))
+
+-- a least common multiple of two such is one
+pub lcm-front : (v : ℕ) (a b : List ℕ) → IsFront v (monomial a) → IsFront v (monomial b) → IsFront v (monomial (lcm a b))
+lcm-front v a b fa fb = front_from v (lcm a b) (λ k past. let x = front_at v a fa k past in let y = front_at v b fb k past in let z = lcm-at a b k in omega (arith, x, y, z))
+
+-- and so is a quotient
+pub quotient-front : (v : ℕ) (a b : List ℕ) → IsFront v (monomial a) → IsFront v (monomial (quotient a b))
+quotient-front v a b fa = front_from v (quotient a b) (λ k past. let x = front_at v a fa k past in let z = quotient-at a b k in omega (arith, x, z))

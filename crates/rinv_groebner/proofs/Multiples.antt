@@ -4,6 +4,7 @@
 --   multiples_one        one multiple of one element
 --   multiples-weaken     a weaker property
 --   multiples_split      a property that holds throughout, or fails at a place
+--   multiples-among      other elements, among which these are
 --   multiples-element    an element times a sum of terms
 --   in-multiples, multiples-in    members of the ideal of the elements are the sums of multiples
 use Rattle.std.proofs.Common.{◌≡◌, ◌⊎◌, [], ◌∷◌, refl, sym, ◌∙◌, ap, subst, inl, inr}
@@ -76,6 +77,12 @@ module _ {K M P I : Type 0} {𝓚 : CRing K} {𝓜 : Monoid M} (𝓣 : TermRing 
   pub multiples-element : {Q Q' : M → Type 0} (k : I) → ((n : M) → Q n → Q' (𝓜.mul n (lead k))) → {f : P} → Of 𝓣 Q f → Sums Q' (f * h k)
   multiples-element {Q' = Q'} k w Of.none = subst (Sums Q') (sym (zero_mul 𝓣.ring (h k))) none
   multiples-element {Q' = Q'} k w (Of.more c n q r) = subst (Sums Q') (sym (add_mul 𝓣.ring _ _ _)) (more c n k (w n q) (multiples-element k w r))
+
+  -- other elements, among which these are
+  pub multiples-among : {J : Type 0} (h' : J → P) (lead' : J → M) (at : I → J) → ((k : I) → h k ≡ h' (at k)) → ((k : I) → lead k ≡ lead' (at k)) → {Q : M → Type 0} {f : P} → Sums Q f → Multiples 𝓣 h' lead' Q f
+  multiples-among h' lead' at e e' none = none
+  multiples-among h' lead' at e e' {Q} (more {f = f} c t k q r) =
+      subst (λ x. Multiples 𝓣 h' lead' Q (𝓣.term c t * x + f)) (sym (e k)) (more c t (at k) (subst (λ x. Q (𝓜.mul t x)) (e' k) q) (multiples-among h' lead' at e e' r))
 
   -- a sum of multiples, whatever their monomials
   abbrev pub AnyMultiples : P → Type 0

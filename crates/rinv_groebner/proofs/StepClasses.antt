@@ -35,7 +35,7 @@ use Rattle.rinv_groebner.proofs.ListElements.{Place, AllFirst, list-leads}
 use Rattle.rinv_groebner.proofs.Greatest.{ge-not_less}
 use Rattle.rinv_groebner.proofs.Reducible.{divides-parts}
 
-negated : {R : Type 0} (𝓡 : CRing R) (x y : R) → 𝓡.mul (𝓡.neg x) y ≡ 𝓡.neg (𝓡.mul x y)
+pub negated : {R : Type 0} (𝓡 : CRing R) (x y : R) → 𝓡.mul (𝓡.neg x) y ≡ 𝓡.neg (𝓡.mul x y)
 negated 𝓡 x y = ring 𝓡 (x ∷ y ∷ []) (search reading depth 30) refl
 
 without_zero : {R : Type 0} (𝓡 : CRing R) (x : R) → 𝓡.add x (𝓡.neg 𝓡.zero) ≡ x
@@ -80,7 +80,8 @@ module _ {E : Type 0} (o : RingOps E) (l : RingLaws o) (cmp : List ℕ → List 
       pub cancelled_front : IsFront v (monomial step.cancelled)
       cancelled_front = has_front o l v f f_first step.cancelled step.next.has
 
-      multiplier_front : IsFront v (monomial s.multiplier.0)
+      -- and so is the multiplier
+      pub multiplier_front : IsFront v (monomial s.multiplier.0)
       multiplier_front = monomials.cancel (monomial (leading_monomial o cmp (step_element hs s))) _ _ (
           monomials.mul_comm _ _ ∙ ap (monomials.mul (front v (monomial s.multiplier.0))) (sym lead_front) ∙ sym (front-mul v _ _) ∙ ap (front v) step_divisor ∙ cancelled_front ∙ sym step_divisor ∙ monomials.mul_comm _ _)
         where

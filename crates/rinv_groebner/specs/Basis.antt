@@ -1,6 +1,6 @@
 -- Gröbner bases.
-use Rattle.std.specs.Prelude.{ℕ, List, IsTrue, IsFalse}
-use Rattle.std.specs.List.{AllByRecursion}
+use Rattle.std.specs.Prelude.{ℕ, not, List, IsTrue, IsFalse}
+use Rattle.std.specs.List.{AllByRecursion, list_all}
 use Rattle.std.specs.declared.cmp.Ordering.{Ordering}
 use Rattle.rinv_algebra.specs.Ring.{RingOps}
 use Rattle.rinv_algebra.specs.Polynomial.{Polynomial, is_zero}
@@ -17,6 +17,10 @@ module _ {E : Type 0} (o : RingOps E) where
   -- two lists generate one ideal
   abbrev pub GenerateOneIdeal : List (Polynomial E) → List (Polynomial E) → Type 0
   GenerateOneIdeal fs gs = AreMembers fs gs × AreMembers gs fs
+
+  -- no polynomial of the list is zero
+  abbrev pub AreNonzero : List (Polynomial E) → Type 0
+  AreNonzero hs = IsTrue (list_all (λ h. not (is_zero o h)) hs)
 
   -- hs is a Gröbner basis of the ideal of fs in v variables: it generates this ideal, and the leading monomial of each member
   -- that is not zero is divided by that of an element

@@ -5,7 +5,7 @@ use Rattle.rinv_algebra.specs.Ring.{RingOps}
 use Rattle.rinv_algebra.specs.Polynomial.{Polynomial, is_zero}
 use Rattle.rinv_algebra.specs.Leading.{s_polynomial}
 use Rattle.rinv_groebner.specs.Division.{Step, AreSame, IsDivision, Steps}
-use Rattle.rinv_groebner.specs.Settled.{is_listed, AreCoprime, HasChain}
+use Rattle.rinv_groebner.specs.Settled.{is_listed, AreCoprime, HasChain, AreAllListed}
 
 -- what became of a pair: its S-polynomial was divided, and the rest added at a place or zero; or nothing was to be done
 pub data Kind : Type 0 where
@@ -65,7 +65,7 @@ module _ {E : Type 0} (o : RingOps E) (cmp : List ℕ → List ℕ → Ordering)
 
   -- each pair of the list has its entry
   abbrev pub IsComplete : List Entry → List (Polynomial E) → Type 0
-  IsComplete journal list = (i j : ℕ) → i < j → j < length list → IsTrue (is_listed (pairs_of journal) i j)
+  IsComplete journal list = AreAllListed list (pairs_of journal)
 
   -- so many cancelling steps on the S-polynomial of an open pair that is not coprime leave this, or nothing is at work
   pub data IsAtWork (journal : List Entry) (list : List (Polynomial E)) : ℕ → Polynomial E → Type 0 where

@@ -1,0 +1,68 @@
+-- Lists of monomials to which one after another is added that no earlier one divides: they end.
+--   divides_first v      divisibility in the first v variables is almost full
+--   ascents_end          only finitely many monomials in v variables can be added, each divided by none before it
+--   descents_end         in an order of the monomials in v variables they descend only finitely often
+use Rattle.std.proofs.Common.{◌≡◌, ℕ, zero, suc, ◌<◌, ◌≤◌, Bool, true, false, not, ◌&&◌, List, [], ◌∷◌, length, get_or, drop, refl, sym, ◌∙◌, ap, arith, subst, inl, inr, ◌⊎◌, IsTrue, true≢false}
+use Rattle.std.specs.Prelude.{nat_le, ◌||◌}
+use Rattle.std.specs.List.{list_any}
+use Rattle.std.specs.declared.cmp.Ordering.{Ordering}
+use Rattle.std.specs.declared.cmp.Ordering.TheVariants.{Less}
+use Rattle.std.proofs.lemmas.Bool.{cases_Bool}
+use Rattle.std.proofs.lemmas.Bool.Decides.{nat_tests}
+use mathlib.Core.WellFounded.{Acc, WellFounded}
+use mathlib.Core.WellFounded.Subrelation as Subrelation
+use mathlib.Core.WellFounded.InvImage as InvImage
+use Rattle.rinv_algebra.specs.Monomial.{divides}
+use Rattle.rinv_theory.proofs.Monoid.{Monomial, monomial}
+use Rattle.rinv_groebner.specs.Orders.{OrdersMonomials}
+use Rattle.rinv_groebner.specs.Count.{is_undivided, AddsUndivided}
+use Rattle.rinv_groebner.proofs.AlmostFull.{AlmostFull, full-weaken, full-pullback, full-and, full-le}
+use Rattle.rinv_groebner.proofs.FirstVariables.{order_in, order_in-less, order_in-well}
+
+-- no exponent of the first v is greater
+abbrev divides_first : ℕ → List ℕ → List ℕ → Bool
+divides_first zero a b = true
+divides_first (suc v) a b = nat_le (get_or a 0 0) (get_or b 0 0) && divides_first v (drop 1 a) (drop 1 b)
+
+first_full : (v : ℕ) → AlmostFull (divides_first v)
+first_full zero = AlmostFull.full (λ a b. refl)
+first_full (suc v) = full-and (full-pullback (λ (a : List ℕ). get_or a 0 0) full-le) (full-pullback (λ (a : List ℕ). drop 1 a) (first_full v))
+
+first-divides : (v : ℕ) (a b : List ℕ) → length a ≤ v → divides_first v a b ≡ true → IsTrue (divides a b)
+unfolding divides
+first-divides v [] b low h = refl
+first-divides zero (x ∷ a) b low h = absurd (omega arith)
+first-divides (suc v) (x ∷ a) [] low h = let r = first-divides v a [] (omega arith) (grind (arith, nat_tests, h)) in grind (arith, nat_tests, h, r)
+first-divides (suc v) (x ∷ a) (y ∷ b) low h = let r = first-divides v a b (omega arith) (grind (arith, nat_tests, h)) in grind (arith, nat_tests, h, r)
+
+-- the relation holds of undivided monomials only where the first divides the second
+abbrev Fits : ℕ → (List ℕ → List ℕ → Bool) → List (List ℕ) → Type 0
+Fits v R ms = (a b : List ℕ) → length a ≤ v → length b ≤ v → R a b ≡ true → IsTrue (is_undivided ms a) → IsTrue (divides a b)
+
+undivided_cons : (ms : List (List ℕ)) (m a : List ℕ) → IsTrue (is_undivided (m ∷ ms) a) → (divides m a ≡ false) × IsTrue (is_undivided ms a)
+undivided_cons ms m a h = (grind (arith, nat_tests, h), grind (arith, nat_tests, h))
+
+ascents-acc : (v : ℕ) {R : List ℕ → List ℕ → Bool} → AlmostFull R → (ms : List (List ℕ)) → Fits v R ms → Acc (AddsUndivided v) ms
+ascents-acc v (AlmostFull.full h) ms fits = Acc.intro ms (λ more s. Acc.intro more (λ last t. absurd (twice more last s t)))
+  where
+    twice : (more last : List (List ℕ)) → AddsUndivided v more ms → AddsUndivided v last more → ⊥
+    twice more last s t =
+        let parts = undivided_cons ms s.added t.added (subst (λ (x : List (List ℕ)). IsTrue (is_undivided x t.added)) s.whole t.undivided) in
+        true≢false (sym (fits s.added t.added s.in_variables t.in_variables (h s.added t.added) s.undivided) ∙ parts.0)
+ascents-acc v (AlmostFull.step {R} h) ms fits = Acc.intro ms (λ more s. subst (Acc (AddsUndivided v)) (sym s.whole) (ascents-acc v (h s.added) (s.added ∷ ms) (kept s.added s.in_variables s.undivided)))
+  where
+    kept : (m : List ℕ) → length m ≤ v → IsTrue (is_undivided ms m) → Fits v (λ a b. R a b || R m a) (m ∷ ms)
+    kept m lm um a b la lb r u =
+        let parts = undivided_cons ms m a u in
+        elim (cases_Bool (R a b)) [
+          | inl here ↦ fits a b la lb here parts.1
+          | inr off ↦ absurd (true≢false (sym (fits m a lm la (grind (arith, nat_tests, off, r)) um) ∙ parts.0))
+        ]
+
+-- only finitely many monomials in v variables can be added, each divided by none before it
+pub ascents_end : (v : ℕ) → WellFounded (AddsUndivided v)
+ascents_end v = record { apply = λ ms. ascents-acc v (first_full v) ms (λ a b la lb r u. first-divides v a b la r) }
+
+-- in an order of the monomials in v variables they descend only finitely often
+pub descents_end : (cmp : List ℕ → List ℕ → Ordering) (v : ℕ) → OrdersMonomials cmp v → WellFounded (λ (a b : List ℕ). (length a ≤ v) × (length b ≤ v) × (cmp a b ≡ Less))
+descents_end cmp v order = Subrelation.wf (λ a b h. order_in-less cmp order.laws v a b h.0 h.1 h.2) (InvImage.wf monomial (order_in-well cmp order.laws v).well_founded)
