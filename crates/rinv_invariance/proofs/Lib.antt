@@ -21,3 +21,4 @@ pub mod StandardMembers
 pub mod RelationClasses
 pub mod Coefficients
 pub mod SameBases
+pub mod SameIdeals

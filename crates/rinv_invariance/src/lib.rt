@@ -2,16 +2,17 @@
 //! The functions do nothing: each contract is a theorem over the definitions.
 #![tactic(auto)]
 
-ghost use Rattle.std.specs.Prelude.{ℕ, List, All, Contains, IsTrue};
+ghost use Rattle.std.specs.Prelude.{◌↔◌, ℕ, List, All, Contains, IsTrue};
 ghost use Rattle.rinv_algebra.specs.Ring.{IsSame};
 ghost use Rattle.rinv_algebra.specs.Monomial.{same_monomial};
 ghost use Rattle.rinv_algebra.specs.Polynomial.{poly_ops, coefficient};
-ghost use Rattle.rinv_defs.specs.System.{System};
+ghost use Rattle.rinv_defs.specs.System.{System, Poly};
 ghost use Rattle.rinv_defs.specs.SystemForm.{IsSystem};
 ghost use Rattle.rinv_defs.specs.Laws.{AllLawsHold};
 ghost use Rattle.rinv_defs.specs.Invariant.{Fraction, IsFraction, IsInvariant};
 ghost use Rattle.rinv_defs.specs.Generators.{rational_ops};
-ghost use Rattle.rinv_defs.specs.Extended.{Relation, IsReducedBasis};
+ghost use Rattle.rinv_defs.specs.Extended.{FractionPoly, Relation, InExtendedIdeal, IsReducedBasis};
+ghost use Rattle.rinv_invariance.specs.Replaced.{with_ideal, GenerateSame};
 
 /// The coefficients of the reduced basis are invariant, where the laws hold: each fraction that has the value of one is.
 pub fn reduced_coefficients_are_invariant()
@@ -23,4 +24,12 @@ pub fn reduced_coefficients_are_invariant()
 pub fn reduced_basis_is_unique()
     ensures { (s : System) (rs qs : List Relation) → IsReducedBasis s rs → IsReducedBasis s qs →
         All (λ r. (q : Relation) × Contains qs q × IsTrue (same_monomial r.lead q.lead) × IsSame (poly_ops (rational_ops s.p)) r.tail q.tail) rs }
+{}
+
+/// The extended ideal depends on the ideals that the group's polynomials and the section's generate, and so do its reduced bases.
+pub fn extended_ideal_by_ideal()
+    ensures members { (s : System) (ideal section : List Poly) → GenerateSame s s.ideal ideal → GenerateSame s s.section section →
+        (f : FractionPoly) → InExtendedIdeal s f ↔ InExtendedIdeal (with_ideal s ideal section) f }
+    ensures bases { (s : System) (ideal section : List Poly) → GenerateSame s s.ideal ideal → GenerateSame s s.section section →
+        (rs : List Relation) → IsReducedBasis s rs ↔ IsReducedBasis (with_ideal s ideal section) rs }
 {}
