@@ -22,3 +22,4 @@ pub mod RelationClasses
 pub mod Coefficients
 pub mod SameBases
 pub mod SameIdeals
+pub mod FoundExtended
