@@ -23,3 +23,4 @@ pub mod Coefficients
 pub mod SameBases
 pub mod SameIdeals
 pub mod FoundExtended
+pub mod SpaceMonomials
