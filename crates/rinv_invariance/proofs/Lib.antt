@@ -24,3 +24,4 @@ pub mod SameBases
 pub mod SameIdeals
 pub mod FoundExtended
 pub mod SpaceMonomials
+pub mod LaterVariables
