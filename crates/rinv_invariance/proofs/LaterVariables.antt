@@ -1,6 +1,7 @@
 -- Polynomials in the variables past the first k: the moved polynomials.
 --   move-move            one move after another
 --   moved_passes         a moved polynomial has monomials without the first k variables alone
+--   moved_zero           only zero is moved to zero
 --   unmoved              a polynomial in the first k + v variables without the first k is a moved one
 use Rattle.std.proofs.Common.{◌≡◌, ℕ, ◌+◌, true, refl, sym, ◌∙◌, ap, ap₂, subst, arith, drop, take}
 use Rattle.std.proofs.lemmas.List.{drop-take}
@@ -11,14 +12,14 @@ use Rattle.rinv_theory.proofs.CRing.{CRing, Hom, compose, hom-zero}
 use Rattle.rinv_theory.proofs.Classes.{Class, class_ring}
 use Rattle.rinv_theory.proofs.Monoid.{Monomial, monomial, monomials, monomial_ind}
 use Rattle.rinv_theory.proofs.TermRing.{TermRing}
-use Rattle.rinv_theory.proofs.Universal.{relabel, relabel-term}
+use Rattle.rinv_theory.proofs.Universal.{agree, relabel, relabel-term}
 use Rattle.rinv_theory.proofs.Polynomials.{polynomials}
 use Rattle.rinv_theory.proofs.Substitution.{agree_variables}
 use Rattle.rinv_theory.proofs.Of.{Of, of_any}
-use Rattle.rinv_theory.proofs.Places.{front, front-list, back, back-list, behind, behind-mul, front_behind}
+use Rattle.rinv_theory.proofs.Places.{front, front-list, back, back-list, back-mul, behind, behind-mul, front_behind}
 use Rattle.rinv_theory.proofs.Variables.{IsFront}
 use Rattle.rinv_groebner.proofs.Compared.{of_passes}
-use Rattle.rinv_soundness.proofs.PlaceFacts.{front-behind}
+use Rattle.rinv_soundness.proofs.PlaceFacts.{front-behind, back-behind}
 use Rattle.rinv_soundness.proofs.Substituting.{var, move, move-constant, move-variable}
 
 -- one move after another
@@ -48,6 +49,15 @@ module _ {K P : Type 0} {𝓚 : CRing K} (𝓣 : TermRing 𝓚 monomials P) (k :
   -- a moved polynomial has no monomial with the first k variables
   pub moved_passes : (x : P) (e : Monomial) → (𝓣.coefficient (moved.at x) e ≡ 𝓚.zero → ⊥) → front k e ≡ monomials.one
   moved_passes x e nonzero = ∥∥₁_elim (of_any 𝓣 x) (monomials.is_set _ _) (λ o. monomials.same_eq _ _ (of_passes 𝓣 (λ m. monomials.same (front k m) monomials.one) e (moved-of o) nonzero))
+
+  -- a move back
+  moved_back : (x : P) → (relabel 𝓣 𝓣 (back k) (back-mul k)).at (moved.at x) ≡ x
+  moved_back = agree 𝓣 𝓣.ring (λ x. (relabel 𝓣 𝓣 (back k) (back-mul k)).at (moved.at x)) (λ x. x) (λ x y. ap (relabel 𝓣 𝓣 (back k) (back-mul k)).at (moved.add x y) ∙ (relabel 𝓣 𝓣 (back k) (back-mul k)).add _ _) (λ x y. refl)
+      (λ c m. ap (relabel 𝓣 𝓣 (back k) (back-mul k)).at (relabel-term 𝓣 𝓣 (behind k) (behind-mul k) c m) ∙ relabel-term 𝓣 𝓣 (back k) (back-mul k) c (behind k m) ∙ ap (𝓣.term c) (back-behind k m))
+
+  -- only zero is moved to zero
+  pub moved_zero : (x : P) → moved.at x ≡ 𝓣.ring.zero → x ≡ 𝓣.ring.zero
+  moved_zero x e = sym (moved_back x) ∙ ap (relabel 𝓣 𝓣 (back k) (back-mul k)).at e ∙ hom-zero (relabel 𝓣 𝓣 (back k) (back-mul k))
 
   -- a polynomial without the first k variables is a moved one
   pub unmoved : (v : ℕ) {x : P} → Of 𝓣 (λ m. IsFront (k + v) m × (monomials.same (front k m) monomials.one ≡ true)) x → (q : P) × Of 𝓣 (IsFront v) q × (moved.at q ≡ x)

@@ -25,3 +25,4 @@ pub mod SameIdeals
 pub mod FoundExtended
 pub mod SpaceMonomials
 pub mod LaterVariables
+pub mod SpaceLeads
