@@ -1,21 +1,17 @@
 -- The coefficients of the relations of a reduced basis are invariant.
 --   tail_part            a relation's coefficients, times its denominator
 --   coefficient_invariant    a fraction of the value of one is invariant; all_invariant: the same of all relations
-use Rattle.std.proofs.Common.{◌≡◌, ℕ, Bool, true, false, cond, not, List, [], ◌∷◌, map, refl, sym, ◌∙◌, ap, ap₂, subst, true≢false}
+use Rattle.std.proofs.Common.{◌≡◌, ℕ, Bool, true, false, cond, List, [], ◌∷◌, map, refl, sym, ◌∙◌, ap, ap₂, subst}
 use Rattle.std.specs.Prelude.{All, IsTrue, IsFalse}
 use Rattle.std.proofs.lemmas.List.Elements.{All-head, All-tail, All-cons, All-nil}
-use mathlib.Core.Logic.{∥∥₁_elim, ∥∥₁_map, ∥∥₁_prop}
+use mathlib.Core.Logic.{∥∥₁_elim, ∥∥₁_prop}
 use Rattle.rinv_algebra.specs.Ring.{IsSame}
-use Rattle.rinv_algebra.specs.Residue.{residue_ops}
-use Rattle.rinv_algebra.specs.Polynomial.{coefficient, opposite, poly_ops, has_monomial}
-use Rattle.rinv_algebra.proofs.ResidueLaws.{residue_laws}
-use Rattle.rinv_algebra.proofs.PolynomialLaws.{poly_laws}
-use Rattle.rinv_theory.proofs.CRing.{CRing, Hom, hom-zero, hom-neg, mul_zero}
+use Rattle.rinv_algebra.specs.Polynomial.{coefficient, poly_ops, has_monomial}
+use Rattle.rinv_theory.proofs.CRing.{hom-zero, hom-neg, mul_zero}
 use Rattle.rinv_theory.proofs.Solver.{ring, reading}
-use Rattle.rinv_theory.proofs.Classes.{Class, class, class_ring, class_sound, class-neg, class-zero, class-one}
+use Rattle.rinv_theory.proofs.Classes.{Class, class, class_sound}
 use Rattle.rinv_theory.proofs.Monoid.{Monomial, monomial, monomials}
-use Rattle.rinv_theory.proofs.TermRing.{TermRing, coefficient-neg}
-use Rattle.rinv_theory.proofs.Polynomials.{polynomials, coefficient_at, class-cons, class-coefficient}
+use Rattle.rinv_theory.proofs.Polynomials.{class-coefficient}
 use Rattle.rinv_theory.proofs.Ideals.{In, in-neg}
 use Rattle.rinv_theory.proofs.Fields.{fraction_laws}
 use Rattle.rinv_theory.proofs.Fractions.{polynomial_fractions}
@@ -23,11 +19,11 @@ use Rattle.rinv_theory.proofs.Variables.{in_variables-of}
 use Rattle.rinv_soundness.proofs.FirstVariables.{retract-front}
 use Rattle.rinv_soundness.proofs.SystemForms.{HasForm, system_form, section_front}
 use Rattle.rinv_soundness.proofs.OverFractions.{into}
-use Rattle.rinv_soundness.proofs.HasMultiples.{HasMultiple, behind_z, multiple-coefficient}
+use Rattle.rinv_soundness.proofs.HasMultiples.{behind_z, multiple-coefficient}
 use Rattle.rinv_soundness.proofs.SpatialValues.{fraction-times}
 use Rattle.rinv_soundness.proofs.ExtendedIdeals.{ops, laws, field, Extended, extended-has}
 use Rattle.rinv_soundness.proofs.LowestMembers.{IsReducibleBy, any-map}
-use Rattle.rinv_defs.specs.System.{System, Poly, group_count, space_count}
+use Rattle.rinv_defs.specs.System.{System, space_count}
 use Rattle.rinv_defs.specs.SystemForm.{IsSystem}
 use Rattle.rinv_defs.specs.Laws.{AllLawsHold}
 use Rattle.rinv_defs.specs.Invariant.{Fraction, IsFraction, IsInvariant}
@@ -44,7 +40,7 @@ use Rattle.rinv_invariance.proofs.MovedIdeal.{group_ideal, moved_member}
 use Rattle.rinv_invariance.proofs.Parts.{part, part-nested}
 use Rattle.rinv_invariance.proofs.Crossed.{turned, parts_member}
 use Rattle.rinv_invariance.proofs.MovedBack as back
-use Rattle.rinv_invariance.proofs.ByValue.{change_of, by_value}
+use Rattle.rinv_invariance.proofs.ByValue.{by_value}
 use Rattle.rinv_invariance.proofs.Flattened.{flat_member}
 use Rattle.rinv_invariance.proofs.StandardMembers.{retracted, retracted-number, retracted-kept, standard_zero}
 

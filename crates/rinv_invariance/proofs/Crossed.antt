@@ -4,16 +4,15 @@
 --   crossed s d y        the same of y: parts-crossed
 --   crossed_member       it lies in the action's ideal and the group's at μ
 --   parts_member         so its parts lie in the group's ideal at μ, where standard monomials are independent
-use Rattle.std.proofs.Common.{◌≡◌, ◌⊎◌, ℕ, ◌*◌, ◌<◌, [], ◌∷◌, refl, sym, ◌∙◌, ap, ap₂, subst, inl, inr}
+use Rattle.std.proofs.Common.{◌≡◌, refl, sym, ◌∙◌, ap, ap₂, subst, inl}
 use mathlib.Core.Logic.{∥∥₁_elim, ∥∥₁_map, ∥∥₁_prop}
 use Rattle.rinv_algebra.specs.Residue.{residue_ops}
 use Rattle.rinv_algebra.proofs.ResidueLaws.{residue_laws}
 use Rattle.rinv_algebra.proofs.ResidueField.{residue_field_laws}
-use Rattle.rinv_theory.proofs.CRing.{CRing, Hom, hom-neg}
-use Rattle.rinv_theory.proofs.Solver.{ring, reading}
+use Rattle.rinv_theory.proofs.CRing.{Hom, hom-neg}
 use Rattle.rinv_theory.proofs.Classes.{class_dec}
 use Rattle.rinv_theory.proofs.Monoid.{Monomial, monomials}
-use Rattle.rinv_theory.proofs.TermRing.{TermRing, constants, constants-at, coefficient-zero}
+use Rattle.rinv_theory.proofs.TermRing.{constants-at, coefficient-zero}
 use Rattle.rinv_theory.proofs.Universal.{change-term}
 use Rattle.rinv_theory.proofs.Ideals.{In, in-add, in-mul, in-neg, in_one, in-in, in-hom}
 use Rattle.rinv_theory.proofs.ListOrders.{order_of}
@@ -21,15 +20,15 @@ use Rattle.rinv_theory.proofs.LastVariable.{later, later_order}
 use Rattle.rinv_theory.proofs.Fields.{class_inverse}
 use Rattle.rinv_soundness.proofs.Substituting.{move, move-constant}
 use Rattle.rinv_defs.specs.System.{System, group_count, space_count}
-use Rattle.rinv_invariance.proofs.Extensions.{Extension, extension, Linear, linear, each, each-unique, each-coefficient}
+use Rattle.rinv_invariance.proofs.Extensions.{extension, Linear, linear, each, each-unique, each-coefficient}
 use Rattle.rinv_invariance.proofs.NormalForms.{normal, each-normal, normal-zero, normal_zero_member}
 use Rattle.rinv_invariance.proofs.FiniteForms.{Forms, forms}
-use Rattle.rinv_invariance.proofs.Flatness.{Multiples, Confined, confiners}
+use Rattle.rinv_invariance.proofs.Flatness.{Multiples, confiners}
 use Rattle.rinv_invariance.proofs.Points.{Scalar, PolyClass, poly_terms}
 use Rattle.rinv_invariance.proofs.Movement.{Moving, moving, still, coordinates, coefficientwise, coefficientwise-still}
 use Rattle.rinv_invariance.proofs.MovedMaps.{moved_space, moved_both, moved_all, shifted, moved_both-later}
 use Rattle.rinv_invariance.proofs.MovedIdeal.{group_ideal, graph_ideal, whole}
-use Rattle.rinv_invariance.proofs.Parts.{part, part-add, part_linear, parts, part-coefficient, parts-each, parts-zero, parts-add, parts-neg, parts-still, parts-scale, parts-moved}
+use Rattle.rinv_invariance.proofs.Parts.{part, part_linear, parts, part-coefficient, parts-each, parts-zero, parts-add, parts-neg, parts-still, parts-scale, parts-moved}
 
 module _ (s : System) where
   open (moving s).ring use {add as ◌+◌, mul as ◌·◌, neg as -◌, zero as 𝟘}

@@ -6,7 +6,7 @@
 --   each-into            it is linear over the polynomials of 𝓣
 --   each_member          it keeps the ideals that polynomials of 𝓣 generate
 use Rattle.std.proofs.Common.{◌≡◌, Bool, true, false, cond, refl, sym, ◌∙◌, ap, ap₂, subst}
-use Rattle.rinv_theory.proofs.CRing.{CRing, Hom, hom-zero, add_mul, zero_mul, mul_one, add_cancel}
+use Rattle.rinv_theory.proofs.CRing.{CRing, Hom, add_mul, add_cancel}
 use Rattle.rinv_theory.proofs.Monoid.{Monoid}
 use Rattle.rinv_theory.proofs.TermSums.{IsAdditive}
 use Rattle.rinv_theory.proofs.TermRing.{TermRing}

@@ -6,16 +6,16 @@
 --   forms                each finite list of members has them
 use Rattle.std.proofs.Common.{◌≡◌, ◌⊎◌, List, [], ◌∷◌, ◌++◌, refl, sym, ◌∙◌, ap, ap₂, subst, inl, inr}
 use mathlib.Core.Logic.{∥∥₁_map, ∥∥₁_elim, ∥∥₁_prop}
-use Rattle.rinv_theory.proofs.CRing.{CRing, Hom, add_neg, add_mul, mul_one, zero_mul, mul_zero}
+use Rattle.rinv_theory.proofs.CRing.{CRing, add_neg, add_mul, zero_mul}
 use Rattle.rinv_theory.proofs.Solver.{ring, reading}
 use Rattle.rinv_theory.proofs.Monoid.{Monoid}
 use Rattle.rinv_theory.proofs.TermRing.{TermRing, term_zero, coefficient-zero}
 use Rattle.rinv_theory.proofs.Universal.{agree}
 use Rattle.rinv_theory.proofs.Leads.{MonomialOrder, Leads, zero_or_lead}
-use Rattle.rinv_theory.proofs.Ideals.{In, in-add, in-mul, in-neg, in-hom}
+use Rattle.rinv_theory.proofs.Ideals.{In, in-add, in-mul, in-neg}
 use Rattle.rinv_soundness.proofs.Substituting.{identity}
-use Rattle.rinv_invariance.proofs.Extensions.{Extension, itself}
-use Rattle.rinv_invariance.proofs.NormalForms.{normal, normal-add, normal-term, normal-zero, normal-near, constant-coefficient}
+use Rattle.rinv_invariance.proofs.Extensions.{itself}
+use Rattle.rinv_invariance.proofs.NormalForms.{normal, normal-add, normal-term, normal-near, constant-coefficient}
 
 module _ {K M P J : Type 0} {𝓚 : CRing K} {𝓜 : Monoid M} (𝓣 : TermRing 𝓚 𝓜 P) (γ : J → P) where
   open 𝓣.ring use {add as ◌+◌, mul as ◌*◌, neg as -◌, zero as 𝟘}

@@ -4,16 +4,16 @@
 --   leave_out            a factor from A that is no zero divisor can be left out of a member
 --   Both e γ F           F, in A, and γ together
 --   confiners            the normal form of a member of both has its coefficients in the ideal of F, where finitely many members are killed
-use Rattle.std.proofs.Common.{◌≡◌, ◌⊎◌, List, [], ◌∷◌, ◌++◌, refl, sym, ◌∙◌, ap, ap₂, subst, inl, inr}
+use Rattle.std.proofs.Common.{◌≡◌, ◌⊎◌, List, [], ◌∷◌, ◌++◌, sym, ◌∙◌, ap, ap₂, subst, inl, inr}
 use mathlib.Core.Logic.{∥∥₁_map, ∥∥₁_elim, ∥∥₁_prop}
-use Rattle.rinv_theory.proofs.CRing.{CRing, Hom, hom-zero, add_mul, zero_mul, mul_zero}
+use Rattle.rinv_theory.proofs.CRing.{CRing, hom-zero, add_mul, zero_mul, mul_zero}
 use Rattle.rinv_theory.proofs.Monoid.{Monoid}
 use Rattle.rinv_theory.proofs.TermRing.{TermRing, terms_ind, coefficient-zero}
 use Rattle.rinv_theory.proofs.Leads.{MonomialOrder}
 use Rattle.rinv_theory.proofs.Ideals.{In, in-mul, in_one}
-use Rattle.rinv_invariance.proofs.Extensions.{Extension, itself}
+use Rattle.rinv_invariance.proofs.Extensions.{Extension}
 use Rattle.rinv_invariance.proofs.NormalForms.{normal, normal-add, normal-zero, normal-scale, normal-into, split_into, normal_zero_member, constant-coefficient}
-use Rattle.rinv_invariance.proofs.FiniteForms.{Member, Kills, kills_both, Forms, forms}
+use Rattle.rinv_invariance.proofs.FiniteForms.{Member, Kills, kills_both, forms}
 
 module _ {K A M P U J : Type 0} {𝓚 : CRing K} {𝓐 : CRing A} {𝓜 : Monoid M} {𝓣 : TermRing 𝓚 𝓜 P} {𝓤 : TermRing 𝓐 𝓜 U} (e : Extension 𝓣 𝓤) (γ : J → P) where
   open 𝓤.ring use {add as ◌+◌, mul as ◌*◌, zero as 𝟘}

@@ -3,31 +3,31 @@
 --   flattened-still, flattened-movers, flattened-moved    constants are moved behind, μ becomes the group's variables, moved
 --                        polynomials are those at the action
 --   flat_member          a change that lies in the group's ideal at μ lies in the group's ideal, as lists have it
-use Rattle.std.proofs.Common.{◌≡◌, ◌⊎◌, ℕ, zero, suc, ◌+◌, ◌-◌, ◌<◌, ◌≤◌, List, [], ◌∷◌, ◌++◌, length, map, get_or, refl, sym, ◌∙◌, ap, ap₂, subst, arith, inl, inr}
+use Rattle.std.proofs.Common.{◌≡◌, ◌⊎◌, ℕ, suc, ◌+◌, ◌-◌, ◌<◌, ◌≤◌, List, [], ◌∷◌, ◌++◌, length, map, get_or, refl, sym, ◌∙◌, ap, ap₂, subst, arith, inl, inr}
 use Rattle.std.proofs.lemmas.List.{get_or_append_left, get_or-append-add}
 use mathlib.Core.Logic.{∥∥₁_elim, ∥∥₁_prop}
 use Rattle.rinv_algebra.specs.Ring.{RingOps, RingLaws}
 use Rattle.rinv_algebra.specs.Residue.{residue_ops}
-use Rattle.rinv_algebra.specs.Polynomial.{poly_ops, past, constant}
+use Rattle.rinv_algebra.specs.Polynomial.{poly_ops, past}
 use Rattle.rinv_algebra.specs.Value.{substitute}
 use Rattle.rinv_algebra.specs.Ideal.{IsMember}
 use Rattle.rinv_algebra.proofs.ResidueLaws.{residue_laws}
 use Rattle.rinv_algebra.proofs.PolynomialLaws.{poly_laws}
 use Rattle.rinv_theory.proofs.CRing.{CRing, Hom, compose, hom-neg, mul_one}
 use Rattle.rinv_theory.proofs.Classes.{class-add, class-mul, class-neg, class-one}
-use Rattle.rinv_theory.proofs.Monoid.{Monomial, monomials, monoid_map-one}
-use Rattle.rinv_theory.proofs.TermRing.{TermRing, constants, constants-at, constant-term}
+use Rattle.rinv_theory.proofs.Monoid.{monomials, monoid_map-one}
+use Rattle.rinv_theory.proofs.TermRing.{constants, constants-at, constant-term}
 use Rattle.rinv_theory.proofs.Universal.{agree, change-term, relabel-term}
 use Rattle.rinv_theory.proofs.Substitution.{agree_variables}
 use Rattle.rinv_theory.proofs.Ideals.{In, in_one, in-in, in-hom}
-use Rattle.rinv_theory.proofs.Members.{generator, in-member}
+use Rattle.rinv_theory.proofs.Members.{in-member}
 use Rattle.rinv_theory.proofs.Nested.{flat, flat-term, inner, inner-term}
 use Rattle.rinv_theory.proofs.Places.{behind, behind-mul}
 use Rattle.rinv_theory.proofs.Variables.{IsFront, past-class}
 use Rattle.rinv_theory.proofs.Of.{Of}
 use Rattle.rinv_theory.proofs.Search.{found_member}
 use Rattle.rinv_soundness.proofs.FirstVariables.{agree_front, low_or_high}
-use Rattle.rinv_soundness.proofs.Substituting.{identity, var, variable-class, put, put-class, put-constant, put-variable, move, move-constant, move-variable}
+use Rattle.rinv_soundness.proofs.Substituting.{identity, var, put, put-class, put-constant, put-variable, move, move-constant, move-variable}
 use Rattle.rinv_soundness.proofs.SystemForms.{HasForm, InFirst}
 use Rattle.rinv_soundness.proofs.GeneratorLists.{map-at}
 use Rattle.rinv_defs.specs.System.{System, Poly, group_count, space_count, variables}
@@ -37,7 +37,7 @@ use Rattle.rinv_invariance.proofs.Flatness.{Multiples}
 use Rattle.rinv_invariance.proofs.Points.{Scalar, scalars, PolyClass, poly_terms, poly_class, natural, map-map, at, values, act, images, keep-act, IsOver}
 use Rattle.rinv_invariance.proofs.PieceValues.{at-constant, at-variable}
 use Rattle.rinv_invariance.proofs.GraphPoints.{length-images, images-variable}
-use Rattle.rinv_invariance.proofs.Movement.{Moving, moving, still, number, coordinates, in_movers, movers, stills, number-at}
+use Rattle.rinv_invariance.proofs.Movement.{moving, still, number, coordinates, in_movers, movers, number-at}
 use Rattle.rinv_invariance.proofs.MovedMaps.{moved_space}
 use Rattle.rinv_invariance.proofs.MovedIdeal.{group_ideal}
 use Rattle.rinv_invariance.proofs.ByValue.{change_of}

@@ -1,11 +1,11 @@
 -- Where a polynomial is known to lie in the extended ideal, its multiple and the cofactors are found by search.
-use Rattle.std.proofs.Common.{◌≡◌, ℕ, ◌*◌, Bool, true, false, not, ◌&&◌, List, length, refl, sym, ◌∙◌, ap, arith, true≢false}
-use Rattle.std.specs.Prelude.{IsTrue, IsFalse, ◌==◌}
+use Rattle.std.proofs.Common.{◌≡◌, ℕ, ◌*◌, Bool, true, false, not, ◌&&◌, List, length, refl, sym, ap, arith, true≢false}
+use Rattle.std.specs.Prelude.{◌==◌}
 use Rattle.std.proofs.lemmas.Bool.{eqb-true}
 use Rattle.std.proofs.lemmas.Bool.Decides.{nat_tests}
 use mathlib.Core.Logic.{∥∥₁_map}
 use Rattle.rinv_algebra.specs.Residue.{residue_ops}
-use Rattle.rinv_algebra.specs.Polynomial.{poly_ops, same, scale, past, is_zero}
+use Rattle.rinv_algebra.specs.Polynomial.{same, scale, past, is_zero}
 use Rattle.rinv_algebra.specs.Normal.{is_in_variables}
 use Rattle.rinv_algebra.specs.Ideal.{combination}
 use Rattle.rinv_algebra.proofs.Same.{both, and_true}

@@ -4,16 +4,14 @@
 --   GraphPoint s κ a z y the three lie so
 --   graph_point          the images of the variables lie so, where a map is zero on the action's ideal
 --   graph-zeros          and the other way round
-use Rattle.std.proofs.Common.{◌≡◌, ◌⊎◌, ℕ, suc, ◌+◌, ◌*◌, ◌<◌, ◌≤◌, inl, inr, List, [], ◌∷◌, ◌++◌, length, map, get_or, refl, sym, ◌∙◌, ap, ap₂, arith}
+use Rattle.std.proofs.Common.{◌≡◌, ◌⊎◌, ℕ, ◌+◌, ◌*◌, ◌<◌, ◌≤◌, inl, inr, List, [], ◌++◌, length, map, get_or, refl, sym, ◌∙◌, ap, arith}
 use Rattle.std.specs.List.{range_with_len}
 use Rattle.std.proofs.lemmas.List.{length-map, get_or_past}
 use Rattle.std.proofs.lemmas.List.FromFn.{length-range_with_len, get_or-map-range_with_len}
 use Rattle.rinv_algebra.specs.Residue.{residue_ops}
-use Rattle.rinv_algebra.specs.Polynomial.{poly_ops, past, variable}
+use Rattle.rinv_algebra.specs.Polynomial.{past, variable}
 use Rattle.rinv_algebra.proofs.ResidueLaws.{residue_laws}
-use Rattle.rinv_algebra.proofs.PolynomialLaws.{poly_laws}
-use Rattle.rinv_theory.proofs.CRing.{CRing, Hom, compose, hom-zero}
-use Rattle.rinv_theory.proofs.Classes.{class-zero}
+use Rattle.rinv_theory.proofs.CRing.{CRing, Hom, compose}
 use Rattle.rinv_theory.proofs.Of.{Of}
 use Rattle.rinv_theory.proofs.Variables.{IsFront, in_variables-of, past-class}
 use Rattle.rinv_soundness.proofs.FirstVariables.{agree_front, low_or_high}

@@ -1,12 +1,12 @@
 -- The laws of a system, which are memberships in the ideals of copies of the group, hold at the points of every algebra.
 --   copy-zeros           at a point whose pieces are points of the group, the ideal of each copy is zero
 --   laws_at              the laws at points
-use Rattle.std.proofs.Common.{◌≡◌, ℕ, zero, suc, ◌+◌, ◌*◌, ◌<◌, List, [], ◌∷◌, ◌++◌, length, map, flat_map, get_or, refl, sym, ◌∙◌, ap, ap₂, subst, arith, append_assoc, append-nil, length-append}
+use Rattle.std.proofs.Common.{◌≡◌, ℕ, zero, suc, ◌+◌, ◌*◌, ◌<◌, List, [], ◌++◌, length, map, flat_map, get_or, sym, ◌∙◌, ap, ap₂, subst, arith, append_assoc, length-append}
 use Rattle.std.specs.List.{range_with_len}
 use Rattle.std.proofs.lemmas.List.{length-map}
 use Rattle.std.proofs.lemmas.List.FromFn.{length-range_with_len}
 use Rattle.rinv_algebra.specs.Residue.{residue_ops}
-use Rattle.rinv_algebra.specs.Polynomial.{past, poly_ops}
+use Rattle.rinv_algebra.specs.Polynomial.{past}
 use Rattle.rinv_algebra.specs.Value.{value, substitute}
 use Rattle.rinv_algebra.proofs.ResidueLaws.{residue_laws}
 use Rattle.rinv_theory.proofs.CRing.{CRing, Hom}
@@ -14,8 +14,8 @@ use Rattle.rinv_theory.proofs.Variables.{past-class}
 use Rattle.rinv_soundness.proofs.SystemForms.{HasForm}
 use Rattle.rinv_soundness.proofs.GeneratorLists.{map-at}
 use Rattle.rinv_defs.specs.System.{System, Poly, group_count, space_count, variables, group_copy, space_behind, ideal_copies, unit_point, times, inverse_of, moved, differences, at_point}
-use Rattle.rinv_defs.specs.Laws.{Law, L1, L2, L3, L4, L5, L6, A1, A2, copies, parts, AllLawsHold}
-use Rattle.rinv_invariance.proofs.Points.{Scalar, scalars, PolyClass, poly_terms, poly_class, at, values, product, inverse, act, unit, IsPoint, IsOver, images, image-substitute, images-at_point, images-times, images-inverse_of, images-moved, images-unit}
+use Rattle.rinv_defs.specs.Laws.{Law, L2, L3, L4, L5, L6, A1, A2, copies, parts, AllLawsHold}
+use Rattle.rinv_invariance.proofs.Points.{scalars, poly_terms, poly_class, at, values, product, inverse, act, unit, IsPoint, IsOver, images, image-substitute, images-times, images-inverse_of, images-moved, images-unit}
 use Rattle.rinv_invariance.proofs.PieceValues.{at-constant, piece, piece-moved}
 use Rattle.rinv_invariance.proofs.Zeros.{Zeros, zeros-left, zeros-right, zeros_both, zeros-at, zeros-map, members-zero, differences-equal}
 use Rattle.rinv_invariance.proofs.PointLaws.{LawsAt}

@@ -6,10 +6,8 @@
 use Rattle.std.proofs.Common.{◌≡◌, ℕ, ◌+◌, true, refl, sym, ◌∙◌, ap, ap₂, subst, arith, drop, take}
 use Rattle.std.proofs.lemmas.List.{drop-take}
 use mathlib.Core.Logic.{∥∥₁_elim}
-use mathlib.Core.Bool.{Bool-set}
 use Rattle.rinv_algebra.specs.Ring.{RingOps, RingLaws}
 use Rattle.rinv_theory.proofs.CRing.{CRing, Hom, compose, hom-zero}
-use Rattle.rinv_theory.proofs.Classes.{Class, class_ring}
 use Rattle.rinv_theory.proofs.Monoid.{Monomial, monomial, monomials, monomial_ind}
 use Rattle.rinv_theory.proofs.TermRing.{TermRing}
 use Rattle.rinv_theory.proofs.Universal.{agree, relabel, relabel-term}

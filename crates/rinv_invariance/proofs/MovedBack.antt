@@ -3,16 +3,16 @@
 --   IsReturning u        u is congruent to itself moved by the inverse of μ and then by μ
 --   returning-still, returning-moved, returning-add, -mul, -neg    of constants, moved polynomials, sums, products and opposites
 --   moved_out            a moved factor can be left out of a member
-use Rattle.std.proofs.Common.{◌≡◌, ℕ, ◌+◌, ◌*◌, List, [], ◌∷◌, ◌++◌, length, map, refl, sym, ◌∙◌, ap, ap₂, subst, arith, append-nil}
+use Rattle.std.proofs.Common.{◌≡◌, List, [], length, map, refl, sym, ◌∙◌, ap, ap₂, subst, append-nil}
 use Rattle.std.proofs.lemmas.List.{length-map}
-use mathlib.Core.Logic.{∥∥₁_elim, ∥∥₁_map, ∥∥₁_prop}
+use mathlib.Core.Logic.{∥∥₁_elim, ∥∥₁_prop}
 use Rattle.rinv_algebra.specs.Residue.{residue_ops}
 use Rattle.rinv_algebra.proofs.ResidueLaws.{residue_laws}
 use Rattle.rinv_algebra.proofs.ResidueField.{residue_field_laws}
-use Rattle.rinv_theory.proofs.CRing.{CRing, Hom, compose, hom-neg, hom-zero, mul_one, zero_mul}
+use Rattle.rinv_theory.proofs.CRing.{CRing, Hom, compose, hom-neg, mul_one}
 use Rattle.rinv_theory.proofs.Classes.{class_dec}
 use Rattle.rinv_theory.proofs.Monoid.{Monomial, monomials}
-use Rattle.rinv_theory.proofs.TermRing.{TermRing, constants, constants-at, monomial-term, split_term}
+use Rattle.rinv_theory.proofs.TermRing.{constants, constants-at, monomial-term, split_term}
 use Rattle.rinv_theory.proofs.Universal.{agree, evaluation, evaluation-term, change-term}
 use Rattle.rinv_theory.proofs.Ideals.{In, in_one, in-in, in-hom}
 use Rattle.rinv_theory.proofs.Of.{Of}
@@ -25,7 +25,7 @@ use Rattle.rinv_defs.specs.System.{System, group_count, space_count, variables}
 use Rattle.rinv_invariance.proofs.QuotientRing.{QuotientBy, quotient_ring, quotient_map, quotient-zero, quotient-member}
 use Rattle.rinv_invariance.proofs.Extensions.{extension}
 use Rattle.rinv_invariance.proofs.Flatness.{Multiples, leave_out}
-use Rattle.rinv_invariance.proofs.Points.{Scalar, scalars, PolyClass, poly_terms, natural, map-map, map_agree, at, act, inverse, IsPoint, IsOver, images, keep-act, keep-inverse}
+use Rattle.rinv_invariance.proofs.Points.{Scalar, scalars, PolyClass, poly_terms, natural, map-map, map_agree, at, act, inverse, IsPoint, images, keep-act, keep-inverse}
 use Rattle.rinv_invariance.proofs.PieceValues.{at-constant, piece}
 use Rattle.rinv_invariance.proofs.PointLaws.{LawsAt, there, back}
 use Rattle.rinv_invariance.proofs.GraphPoints.{length-images, images-first, each_front}

@@ -1,7 +1,7 @@
 -- The action's ideal, moved by μ where the group's point is taken back, lies in itself and the group's ideal at μ together.
 --   quotient             the ring modulo both; into_quotient is the map to it
 --   moved_member         the image of a member lies in both
-use Rattle.std.proofs.Common.{◌≡◌, ◌⊎◌, ℕ, ◌+◌, ◌<◌, List, [], ◌∷◌, ◌++◌, length, map, get_or, refl, sym, ◌∙◌, ap, ap₂, subst, arith, append_assoc, append-nil, length-append, inl, inr}
+use Rattle.std.proofs.Common.{◌≡◌, ◌⊎◌, ℕ, ◌+◌, ◌<◌, List, [], ◌++◌, length, map, get_or, refl, sym, ◌∙◌, ap, ap₂, subst, arith, append_assoc, append-nil, length-append, inl, inr}
 use Rattle.std.proofs.lemmas.List.{length-map}
 use Rattle.rinv_algebra.specs.Residue.{residue_ops}
 use Rattle.rinv_algebra.proofs.ResidueLaws.{residue_laws}
@@ -15,7 +15,7 @@ use Rattle.rinv_defs.specs.Extended.{action_ideal}
 use Rattle.rinv_invariance.proofs.QuotientRing.{QuotientBy, quotient_ring, quotient_map, quotient-zero, quotient-member}
 use Rattle.rinv_invariance.proofs.Extensions.{extension}
 use Rattle.rinv_invariance.proofs.Flatness.{Both}
-use Rattle.rinv_invariance.proofs.Points.{Scalar, scalars, PolyClass, poly_terms, poly_class, natural, map-map, at, product, inverse, act, IsPoint, IsOver, images, keep-product, keep-inverse, keep-act}
+use Rattle.rinv_invariance.proofs.Points.{Scalar, scalars, PolyClass, poly_terms, natural, map-map, at, product, inverse, act, IsPoint, IsOver, images, keep-product, keep-inverse, keep-act}
 use Rattle.rinv_invariance.proofs.PieceValues.{at-constant, piece}
 use Rattle.rinv_invariance.proofs.PointLaws
 use Rattle.rinv_invariance.proofs.PointLaws.{LawsAt}

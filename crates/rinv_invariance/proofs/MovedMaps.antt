@@ -4,7 +4,7 @@
 --   moved_both-first     it keeps Z
 --   moved_all-later      behind the group's variables the third is the second
 --   moved_both-kept      a map of the coefficients that keeps Z and the space's variables keeps the second
-use Rattle.std.proofs.Common.{◌≡◌, ℕ, ◌+◌, ◌*◌, ◌<◌, List, [], ◌++◌, length, map, get_or, refl, sym, ◌∙◌, ap, ap₂, arith}
+use Rattle.std.proofs.Common.{◌≡◌, ℕ, ◌+◌, ◌*◌, ◌<◌, List, ◌++◌, length, map, refl, sym, ◌∙◌, ap, ap₂, arith}
 use Rattle.std.proofs.lemmas.List.{map-append, length-map, get_or_append_left}
 use Rattle.rinv_algebra.specs.Residue.{residue_ops}
 use Rattle.rinv_algebra.proofs.ResidueLaws.{residue_laws}
@@ -16,7 +16,7 @@ use Rattle.rinv_soundness.proofs.FirstVariables.{agree_front}
 use Rattle.rinv_soundness.proofs.Substituting.{var, move, move-constant, move-variable}
 use Rattle.rinv_soundness.proofs.SystemForms.{HasForm}
 use Rattle.rinv_defs.specs.System.{System, group_count, space_count}
-use Rattle.rinv_invariance.proofs.Points.{Scalar, scalars, PolyClass, poly_terms, natural, at, product, inverse, act, IsOver, keep-act}
+use Rattle.rinv_invariance.proofs.Points.{Scalar, scalars, PolyClass, poly_terms, natural, at, product, inverse, act, keep-act}
 use Rattle.rinv_invariance.proofs.PieceValues.{at-constant, at-variable}
 use Rattle.rinv_invariance.proofs.GraphPoints.{length-images, images-first}
 use Rattle.rinv_invariance.proofs.Movement.{moving, Moving, still, number, movers, stills, still_over, coefficientwise, coefficientwise-number, coefficientwise-point, coefficientwise-stills, moved-later}

@@ -6,7 +6,7 @@
 --   normal_zero_member   so a polynomial whose normal form is zero lies in the ideal of γ
 use Rattle.std.proofs.Common.{◌≡◌, [], ◌∷◌, refl, sym, ◌∙◌, ap, ap₂, subst}
 use mathlib.Core.Logic.{∥∥₁_map, ∥∥₁_prop}
-use Rattle.rinv_theory.proofs.CRing.{CRing, Hom, hom-neg, add_neg, add_mul, mul_one}
+use Rattle.rinv_theory.proofs.CRing.{CRing, hom-neg, add_neg, add_mul, mul_one}
 use Rattle.rinv_theory.proofs.Solver.{ring, reading}
 use Rattle.rinv_theory.proofs.Monoid.{Monoid}
 use Rattle.rinv_theory.proofs.TermSums.{IsAdditive}

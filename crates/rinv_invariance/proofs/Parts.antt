@@ -3,12 +3,12 @@
 --   part-scale           factors in the space's variables stay
 --   parts-of s b         at each coefficient of a polynomial in μ: part-still, parts-scale
 --   parts-moved          the part of a moved polynomial is the moved part
-use Rattle.std.proofs.Common.{◌≡◌, ◌≤◌, ℕ, Bool, true, false, cond, refl, sym, ◌∙◌, ap, ap₂, arith}
+use Rattle.std.proofs.Common.{◌≡◌, ◌≤◌, Bool, true, false, cond, refl, sym, ◌∙◌, ap, ap₂, arith}
 use Rattle.rinv_algebra.specs.Residue.{residue_ops}
 use Rattle.rinv_algebra.proofs.ResidueLaws.{residue_laws}
-use Rattle.rinv_theory.proofs.CRing.{CRing, Hom, hom-zero, add_mul}
+use Rattle.rinv_theory.proofs.CRing.{Hom, hom-zero, add_mul}
 use Rattle.rinv_theory.proofs.Monoid.{Monomial, monomials}
-use Rattle.rinv_theory.proofs.TermRing.{TermRing, constants, constants-at, constant-term, monomial-term}
+use Rattle.rinv_theory.proofs.TermRing.{constants, constants-at, monomial-term}
 use Rattle.rinv_theory.proofs.Universal.{agree, relabel-term, change-term}
 use Rattle.rinv_theory.proofs.Places.{front, back, behind, behind-mul, front_behind}
 use Rattle.rinv_theory.proofs.Nested.{nest, nest-term}
@@ -17,9 +17,9 @@ use Rattle.rinv_soundness.proofs.FirstVariables.{front-front}
 use Rattle.rinv_soundness.proofs.Substituting.{move, move-constant}
 use Rattle.rinv_soundness.proofs.PlaceFacts.{nest-behind, back-front}
 use Rattle.rinv_defs.specs.System.{System, space_count}
-use Rattle.rinv_invariance.proofs.Extensions.{Extension, extension, Linear, each, each-add, each-neg, each-zero, each-term, each-coefficient}
+use Rattle.rinv_invariance.proofs.Extensions.{extension, Linear, each, each-add, each-neg, each-zero, each-term, each-coefficient}
 use Rattle.rinv_invariance.proofs.Points.{Scalar, scalars, PolyClass, poly_terms}
-use Rattle.rinv_invariance.proofs.Movement.{Moving, moving, still, number, coordinates}
+use Rattle.rinv_invariance.proofs.Movement.{Moving, moving, still, coordinates}
 use Rattle.rinv_invariance.proofs.MovedMaps.{moved_space, moved_both, shifted, moved_both-later, moved_both-first}
 
 module _ (s : System) (b : Monomial) where

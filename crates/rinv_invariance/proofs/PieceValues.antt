@@ -3,16 +3,15 @@
 --   piece-variable       a variable of a piece
 --   piece                the variables of a piece
 --   piece-moved          a polynomial that is moved to a piece has its value there
-use Rattle.std.proofs.Common.{◌≡◌, ℕ, ◌+◌, ◌<◌, List, [], ◌∷◌, ◌++◌, length, map, get_or, refl, sym, ◌∙◌, ap, ap₂, arith}
+use Rattle.std.proofs.Common.{◌≡◌, ℕ, ◌+◌, ◌<◌, List, ◌++◌, length, map, get_or, refl, sym, ◌∙◌, ap, arith}
 use Rattle.std.specs.List.{range_with_len}
 use Rattle.std.proofs.lemmas.List.{same_lists, length-map, get_or_append_left, get_or-append-add, get_or_default}
 use Rattle.std.proofs.lemmas.List.FromFn.{get_or-map-range_with_len, length-range_with_len}
 use Rattle.rinv_algebra.specs.Residue.{residue_ops}
-use Rattle.rinv_algebra.specs.Polynomial.{poly_ops, variable}
+use Rattle.rinv_algebra.specs.Polynomial.{variable}
 use Rattle.rinv_algebra.proofs.ResidueLaws.{residue_laws}
 use Rattle.rinv_theory.proofs.CRing.{CRing, Hom, compose, mul_one}
 use Rattle.rinv_theory.proofs.Monoid.{monomials}
-use Rattle.rinv_theory.proofs.TermRing.{TermRing}
 use Rattle.rinv_theory.proofs.Substitution.{substitution-term, substitution-variable, monomial_at-one}
 use Rattle.rinv_theory.proofs.Of.{Of}
 use Rattle.rinv_theory.proofs.Variables.{IsFront}

@@ -4,7 +4,7 @@
 --   there, back          p(p⁻¹ y) = y, and p⁻¹(p y) = y
 use Rattle.std.proofs.Common.{◌≡◌, List, length, ap, ◌∙◌}
 use Rattle.rinv_theory.proofs.CRing.{CRing, Hom}
-use Rattle.rinv_defs.specs.System.{System, group_count, space_count}
+use Rattle.rinv_defs.specs.System.{System, space_count}
 use Rattle.rinv_invariance.proofs.Points.{scalars, IsPoint, product, inverse, act, unit}
 
 module _ (s : System) {A : Type 0} {𝓐 : CRing A} (κ : Hom (scalars s.p) 𝓐) where

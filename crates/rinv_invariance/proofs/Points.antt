@@ -6,21 +6,21 @@
 --   IsPoint              a point of the group: the group's ideal is zero there
 --   IsOver κ h           a map of the polynomials' ring that keeps numbers
 --   images h fs          the images of a list; images-times and the like: the maps' images are the maps at the images
-use Rattle.std.proofs.Common.{◌≡◌, ℕ, List, [], ◌∷◌, ◌++◌, length, map, get_or, refl, sym, ◌∙◌, ap, ap₂}
+use Rattle.std.proofs.Common.{◌≡◌, ℕ, List, [], ◌∷◌, ◌++◌, length, map, get_or, refl, ◌∙◌, ap, ap₂}
 use Rattle.std.proofs.lemmas.List.{map-append}
 use Rattle.rinv_algebra.specs.Residue.{residue_ops}
 use Rattle.rinv_algebra.specs.Polynomial.{poly_ops, constant}
 use Rattle.rinv_algebra.specs.Value.{substitute}
 use Rattle.rinv_algebra.proofs.ResidueLaws.{residue_laws}
 use Rattle.rinv_algebra.proofs.PolynomialLaws.{poly_laws}
-use Rattle.rinv_theory.proofs.CRing.{CRing, Hom, compose, hom-zero}
+use Rattle.rinv_theory.proofs.CRing.{CRing, Hom, compose}
 use Rattle.rinv_theory.proofs.Classes.{Class, class, class_ring, class_ind}
 use Rattle.rinv_theory.proofs.Monoid.{monomials}
 use Rattle.rinv_theory.proofs.TermRing.{TermRing}
-use Rattle.rinv_theory.proofs.Polynomials.{polynomials, poly_ring, class-constant}
+use Rattle.rinv_theory.proofs.Polynomials.{polynomials, class-constant}
 use Rattle.rinv_theory.proofs.Values.{class_map, class_map-at, constant_map}
 use Rattle.rinv_theory.proofs.Substitution.{substitution, substitution-term, substitution-unique, hom-monomial_at}
-use Rattle.rinv_soundness.proofs.Substituting.{put, put-class}
+use Rattle.rinv_soundness.proofs.Substituting.{put-class}
 use Rattle.rinv_defs.specs.System.{System, Poly, group_count, times, inverse_of, moved, unit_point, at_point}
 
 -- the field of p elements, as classes of residues

@@ -3,7 +3,7 @@
 --   coefficient_over s x b    a coefficient of a polynomial over fractions
 --   relation-class, relation-coefficient    a relation is its lead minus its tail
 --   tail-zero            the tail of a relation of a reduced basis has no reducible monomial
-use Rattle.std.proofs.Common.{◌≡◌, ℕ, Bool, true, false, cond, not, List, [], ◌∷◌, refl, sym, ◌∙◌, ap, ap₂, true≢false}
+use Rattle.std.proofs.Common.{◌≡◌, ℕ, Bool, true, false, cond, not, List, refl, sym, ◌∙◌, ap, ap₂, true≢false}
 use Rattle.std.specs.Prelude.{IsTrue, IsFalse}
 use Rattle.rinv_algebra.specs.Ring.{RingLaws}
 use Rattle.rinv_algebra.specs.Polynomial.{coefficient, opposite, poly_ops, has_monomial}

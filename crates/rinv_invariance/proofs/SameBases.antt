@@ -3,12 +3,11 @@
 --   matched              so it is one of its leads
 --   equal_tails          relations with one lead have one tail
 --   basis_same           the two are the same
-use Rattle.std.proofs.Common.{◌≡◌, ◌⊎◌, ℕ, zero, suc, ◌<◌, ◌≤◌, Bool, true, false, cond, not, List, [], ◌∷◌, length, length-take, take, map, get_or, refl, sym, ◌∙◌, ap, ap₂, subst, arith, inl, inr, true≢false}
-use Rattle.std.specs.Prelude.{All, AllPairs, Contains, IsTrue, IsFalse}
+use Rattle.std.proofs.Common.{◌≡◌, ◌⊎◌, ℕ, suc, ◌<◌, ◌≤◌, Bool, true, false, cond, List, [], ◌∷◌, length, length-take, take, map, get_or, refl, sym, ◌∙◌, ap, ap₂, subst, arith, inl, inr, true≢false}
+use Rattle.std.specs.Prelude.{All, Contains, IsTrue, IsFalse}
 use Rattle.std.specs.List.{list_any}
 use Rattle.std.proofs.lemmas.List.Elements.{All-cons, All-nil, Contains-get_or}
 use Rattle.std.proofs.lemmas.List.Folds.{list_any_at}
-use mathlib.Core.Logic.{∥∥₁_elim, ∥∥₁_prop}
 use Rattle.rinv_algebra.specs.Ring.{IsSame}
 use Rattle.rinv_algebra.specs.Residue.{residue_ops}
 use Rattle.rinv_algebra.specs.Monomial.{same_monomial, divides}
@@ -16,11 +15,11 @@ use Rattle.rinv_algebra.specs.Polynomial.{poly_ops, has_monomial}
 use Rattle.rinv_algebra.proofs.MonomialLaws.{same_from}
 use Rattle.rinv_algebra.proofs.ResidueLaws.{residue_laws}
 use Rattle.rinv_algebra.proofs.PolynomialLaws.{poly_laws}
-use Rattle.rinv_theory.proofs.CRing.{CRing, hom-zero}
+use Rattle.rinv_theory.proofs.CRing.{hom-zero}
 use Rattle.rinv_theory.proofs.Solver.{ring, reading}
 use Rattle.rinv_theory.proofs.Classes.{Class, class, class_exact, class-zero, class-one}
-use Rattle.rinv_theory.proofs.Monoid.{IsOne, Monomial, monomial, monomials, monomial_sound, monomial_exact, monomial-same}
-use Rattle.rinv_theory.proofs.TermRing.{TermRing, coefficient-neg}
+use Rattle.rinv_theory.proofs.Monoid.{Monomial, monomial, monomials, monomial_sound, monomial_exact}
+use Rattle.rinv_theory.proofs.TermRing.{coefficient-neg}
 use Rattle.rinv_theory.proofs.Ideals.{In}
 use Rattle.rinv_theory.proofs.Places.{front, front-list}
 use Rattle.rinv_theory.proofs.Fields.{fraction_laws, fraction_field}

@@ -2,16 +2,13 @@
 --   action_moved         members of the action's ideal are those of another with the same ideals
 --   extended_moved       so the extended ideal is the same; basis_moved: and its reduced bases are
 use Rattle.std.proofs.Common.{◌≡◌, ◌⊎◌, ℕ, ◌<◌, ◌≤◌, List, [], ◌∷◌, ◌++◌, length, map, get_or, refl, sym, ◌∙◌, ap, subst, inl, inr, arith}
-use Rattle.std.specs.Prelude.{All, ◌↔◌, IsTrue}
+use Rattle.std.specs.Prelude.{All}
 use Rattle.std.proofs.lemmas.List.{length-map}
 use Rattle.std.proofs.lemmas.List.Elements.{All-head, All-tail, All-cons, All-nil}
 use Rattle.rinv_algebra.specs.Residue.{residue_ops}
-use Rattle.rinv_algebra.specs.Polynomial.{poly_ops, past}
+use Rattle.rinv_algebra.specs.Polynomial.{past}
 use Rattle.rinv_algebra.specs.Ideal.{IsMember}
 use Rattle.rinv_algebra.proofs.ResidueLaws.{residue_laws}
-use Rattle.rinv_theory.proofs.CRing.{CRing, Hom}
-use Rattle.rinv_theory.proofs.Classes.{Class, class}
-use Rattle.rinv_theory.proofs.Polynomials.{poly_ring}
 use Rattle.rinv_theory.proofs.Ideals.{In, in_one, in-in, in-hom}
 use Rattle.rinv_theory.proofs.Members.{generator, member-in, in-member}
 use Rattle.rinv_theory.proofs.Search.{found_member}
@@ -19,9 +16,8 @@ use Rattle.rinv_theory.proofs.Variables.{past-class}
 use Rattle.rinv_soundness.proofs.FirstVariables.{low_or_high}
 use Rattle.rinv_soundness.proofs.Substituting.{move}
 use Rattle.rinv_soundness.proofs.GeneratorLists.{map-at, all_at, generator_past, in-left, in-right, generators-append}
-use Rattle.rinv_defs.specs.System.{System, Poly, group_count, space_count}
-use Rattle.rinv_defs.specs.Extended.{FractionPoly, Relation, InExtendedIdeal, IsReducedBasis, relation_poly, graph, action_ideal, is_reducible}
-use Rattle.rinv_defs.specs.Generators.{rational_ops}
+use Rattle.rinv_defs.specs.System.{System, Poly, group_count}
+use Rattle.rinv_defs.specs.Extended.{FractionPoly, Relation, InExtendedIdeal, IsReducedBasis, relation_poly, graph, action_ideal}
 use Rattle.rinv_invariance.specs.Replaced.{with_ideal}
 use Rattle.rinv_invariance.proofs.Points.{PolyClass, poly_terms, poly_class}
 

@@ -1,7 +1,7 @@
 -- The section misses the orbits exactly where an element of a Gröbner basis of the action's ideal lies in the space's variables.
 --   misses-element       1 in the extended ideal gives such an element
 --   element-misses       such an element puts 1 into the extended ideal
-use Rattle.std.proofs.Common.{◌≡◌, ◌⊎◌, ℕ, zero, suc, ◌+◌, ◌*◌, ◌<◌, ◌≤◌, Bool, true, false, not, ◌&&◌, List, [], ◌∷◌, ◌++◌, length, length-append, map, take, replicate, get_or, refl, sym, ◌∙◌, ap, subst, arith, inl, inr, true≢false, IsTrue}
+use Rattle.std.proofs.Common.{◌≡◌, ℕ, zero, suc, ◌+◌, ◌*◌, ◌<◌, Bool, true, false, not, List, [], ◌∷◌, length, length-append, take, replicate, get_or, refl, sym, ◌∙◌, ap, subst, arith, true≢false, IsTrue}
 use Rattle.std.specs.Prelude.{IsFalse, ◌==◌, nat_le}
 use Rattle.std.specs.List.{AllByRecursion, list_all, list_any}
 use Rattle.std.proofs.lemmas.Bool.{eqb-true}
@@ -9,9 +9,8 @@ use Rattle.std.proofs.lemmas.Bool.Decides.{nat_tests}
 use Rattle.std.proofs.lemmas.List.{length-replicate}
 use Rattle.std.proofs.lemmas.List.Folds.{list_any_at}
 use Rattle.rinv_algebra.specs.Residue.{residue_ops}
-use Rattle.rinv_algebra.specs.Monomial.{divides, total_degree}
-use Rattle.rinv_algebra.specs.Order.{block_order}
-use Rattle.rinv_algebra.specs.Polynomial.{Polynomial, poly_ops, past, is_zero, has_monomial}
+use Rattle.rinv_algebra.specs.Monomial.{total_degree}
+use Rattle.rinv_algebra.specs.Polynomial.{poly_ops, past, is_zero, has_monomial}
 use Rattle.rinv_algebra.specs.Normal.{is_in_variables}
 use Rattle.rinv_algebra.specs.Leading.{IsLeadingMonomial, leading_monomial}
 use Rattle.rinv_algebra.specs.Ideal.{IsMember}
@@ -20,8 +19,8 @@ use Rattle.rinv_algebra.proofs.ResidueLaws.{residue_laws}
 use Rattle.rinv_algebra.proofs.BlockOrder.{block_order_laws}
 use Rattle.rinv_algebra.proofs.PolynomialLaws.{poly_laws}
 use Rattle.rinv_algebra.proofs.Same.{both, and_true}
-use Rattle.rinv_theory.proofs.CRing.{CRing, Hom, hom-zero, mul_one}
-use Rattle.rinv_theory.proofs.Classes.{Class, class, class_sound, class_dec, class-one}
+use Rattle.rinv_theory.proofs.CRing.{hom-zero, mul_one}
+use Rattle.rinv_theory.proofs.Classes.{class_sound, class_dec, class-one}
 use Rattle.rinv_theory.proofs.Monoid.{Monomial, monomial, monomials, monomial_ind}
 use Rattle.rinv_theory.proofs.Of.{Of, of_where}
 use Rattle.rinv_theory.proofs.Fields.{fraction_laws}
@@ -38,7 +37,7 @@ use Rattle.rinv_groebner.proofs.LeadingMonomials.{leading_monomial-leads}
 use Rattle.rinv_groebner.proofs.Reducible.{first_passing, first_divisor, divides-parts}
 use Rattle.rinv_soundness.proofs.Substituting.{move}
 use Rattle.rinv_soundness.proofs.OverFractions.{over_ring, over_injective, constant_over, split_over-class, scale-class}
-use Rattle.rinv_soundness.proofs.HasMultiples.{HasMultiple, behind_z, read-move}
+use Rattle.rinv_soundness.proofs.HasMultiples.{behind_z, read-move}
 use Rattle.rinv_soundness.proofs.ExtendedIdeals.{ops, laws, field, Extended, has-extended, nonzero-class, class-nonzero}
 use Rattle.rinv_defs.specs.System.{System, Poly, group_count, space_count}
 use Rattle.rinv_defs.specs.Generators.{rational_ops}

@@ -4,20 +4,18 @@
 --   without-front, front-without    so is the monomial's part there
 --   without-divisor      a divisor has no more variables
 --   block_without        in a block order, what is not greater than a monomial without the first two blocks is without them
-use Rattle.std.proofs.Common.{◌≡◌, ◌⊎◌, ℕ, zero, suc, ◌+◌, ◌-◌, ◌<◌, ◌≤◌, Bool, true, false, List, [], ◌∷◌, ◌++◌, length, take, drop, replicate, get_or, refl, sym, ◌∙◌, ap, ap₂, subst, arith, IsTrue, inl, inr, true≢false}
-use Rattle.std.specs.Prelude.{sum, ◌==◌}
+use Rattle.std.proofs.Common.{◌≡◌, ℕ, zero, suc, ◌+◌, ◌-◌, ◌<◌, List, [], ◌∷◌, take, drop, get_or, refl, sym, ◌∙◌, ap₂, subst, arith, IsTrue, inl, inr, true≢false}
 use Rattle.std.specs.Ordering.{is_ge, nat_cmp, ordering_then}
 use Rattle.std.specs.Cmp.{nat_cmp_is}
 use Rattle.std.specs.declared.cmp.Ordering.{Ordering}
-use Rattle.std.specs.declared.cmp.Ordering.TheVariants.{Less, Equal, Greater}
+use Rattle.std.specs.declared.cmp.Ordering.TheVariants.{Less, Equal}
 use Rattle.std.proofs.lemmas.List.{get_or-take, get_or-drop, get_or_past, length-take}
 use Rattle.std.proofs.lemmas.List.Sums.{sum_by-cons}
-use Rattle.std.proofs.lemmas.Bool.Decides.{nat_tests}
-use Rattle.rinv_algebra.specs.Monomial.{same_monomial, divides, total_degree}
+use Rattle.rinv_algebra.specs.Monomial.{divides, total_degree}
 use Rattle.rinv_algebra.specs.Order.{grevlex, last_cmp, block_order}
 use Rattle.rinv_algebra.proofs.Grevlex.{grevlex_laws}
 use Rattle.rinv_algebra.proofs.MonomialLaws.{same_at, same_from}
-use Rattle.rinv_theory.proofs.Monoid.{IsOne, Monomial, monomial, monomials, monomial_sound, monomial_exact, monomial-one}
+use Rattle.rinv_theory.proofs.Monoid.{monomial, monomials, monomial_sound, monomial_exact, monomial-one}
 use Rattle.rinv_theory.proofs.Places.{front, front-list}
 use Rattle.rinv_theory.proofs.WellOrders.{tied}
 use Rattle.rinv_groebner.proofs.MonomialLists.{divides_at}

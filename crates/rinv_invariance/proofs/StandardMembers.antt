@@ -3,7 +3,7 @@
 --   retracted            the variables past Z and the space's are put 1
 --   retracted-kept       moved polynomials are kept so
 --   standard_zero        the fact
-use Rattle.std.proofs.Common.{◌≡◌, ℕ, ◌*◌, ◌<◌, ◌≤◌, List, map, refl, sym, ◌∙◌, ap, subst, arith}
+use Rattle.std.proofs.Common.{◌≡◌, ℕ, ◌*◌, ◌<◌, ◌≤◌, List, map, sym, ◌∙◌, ap, subst, arith}
 use mathlib.Core.Logic.{∥∥₁_elim}
 use Rattle.rinv_algebra.specs.Residue.{residue_ops}
 use Rattle.rinv_algebra.proofs.ResidueLaws.{residue_laws}

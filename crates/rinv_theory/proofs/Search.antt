@@ -3,10 +3,11 @@
 --   numbers, pairs, lists    enumerations of numbers, of pairs, of lists
 --   searched             an element that passes a test, where one exists
 --   found_member         cofactors of a polynomial over numbers
-use Rattle.std.proofs.Common.{◌≡◌, ◌⊎◌, ℕ, zero, suc, ◌+◌, ◌<◌, ◌≤◌, max, Bool, true, false, ◌&&◌, List, [], ◌∷◌, ◌++◌, length, map, flat_map, refl, sym, ◌∙◌, ap, IsTrue, inl, inr, arith, true≢false}
+use Rattle.std.proofs.Common.{◌≡◌, ◌⊎◌, ℕ, zero, suc, ◌+◌, ◌<◌, ◌≤◌, max, Bool, true, false, ◌&&◌, List, [], ◌∷◌, length, map, flat_map, refl, sym, ◌∙◌, ap, inl, inr, arith, true≢false}
 use Rattle.std.specs.Prelude.{◌||◌, ◌==◌}
 use Rattle.std.specs.List.{range_with_len, list_any}
 use Rattle.std.proofs.lemmas.Bool.{eqb-true}
+use Rattle.std.proofs.lemmas.List.Folds.{list_any-append}
 use Rattle.std.proofs.lemmas.Bool.Decides.{nat_tests}
 use mathlib.Core.Bool.{Bool-set}
 use mathlib.Core.HLevel.{Σ_prop_path}
@@ -72,21 +73,13 @@ or_right : (a b : Bool) → b ≡ true → (a || b) ≡ true
 or_right true b e = refl
 or_right false b e = e
 
-any-append : {X : Type 0} (test : X → Bool) (xs ys : List X) → list_any test (xs ++ ys) ≡ (list_any test xs || list_any test ys)
-any-append test [] ys = refl
-any-append test (x ∷ xs) ys = go (test x) (any-append test xs ys)
-  where
-    go : (b : Bool) → list_any test (xs ++ ys) ≡ (list_any test xs || list_any test ys) → (b || list_any test (xs ++ ys)) ≡ ((b || list_any test xs) || list_any test ys)
-    go true e = refl
-    go false e = e
-
 any-map : {X Y : Type 0} (test : Y → Bool) (f : X → Y) (xs : List X) → list_any test (map f xs) ≡ list_any (λ x. test (f x)) xs
 any-map test f [] = refl
 any-map test f (x ∷ xs) = ap (λ b. test (f x) || b) (any-map test f xs)
 
 any-flat_map : {X Y : Type 0} (test : Y → Bool) (f : X → List Y) (xs : List X) → list_any test (flat_map f xs) ≡ list_any (λ x. list_any test (f x)) xs
 any-flat_map test f [] = refl
-any-flat_map test f (x ∷ xs) = any-append test (f x) (flat_map f xs) ∙ ap (λ b. list_any test (f x) || b) (any-flat_map test f xs)
+any-flat_map test f (x ∷ xs) = list_any-append test (f x) (flat_map f xs) ∙ ap (λ b. list_any test (f x) || b) (any-flat_map test f xs)
 
 in_range : (test : ℕ → Bool) (x start count : ℕ) → start ≤ x → x < start + count → test x ≡ true → list_any test (range_with_len start count) ≡ true
 in_range test x start zero low high e = absurd (omega (arith, low, high))

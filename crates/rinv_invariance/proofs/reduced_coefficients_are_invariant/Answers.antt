@@ -1,5 +1,3 @@
-use Rattle.std.proofs.Common.{ℕ, List, [], ◌∷◌}
-use Rattle.std.specs.Prelude.{All, IsTrue, IsFalse}
 use Rattle.rinv_invariance.proofs.Coefficients.{all_invariant}
 use Rattle.rinv_invariance.proofs.reduced_coefficients_are_invariant.Goals as goal
 
