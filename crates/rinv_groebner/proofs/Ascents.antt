@@ -1,10 +1,8 @@
 -- Lists of monomials to which one after another is added that no earlier one divides: they end.
---   divides_first v      divisibility in the first v variables is almost full
 --   ascents_end          only finitely many monomials in v variables can be added, each divided by none before it
 --   descents_end         in an order of the monomials in v variables they descend only finitely often
-use Rattle.std.proofs.Common.{◌≡◌, ℕ, zero, suc, ◌<◌, ◌≤◌, Bool, true, false, not, ◌&&◌, List, [], ◌∷◌, length, get_or, drop, refl, sym, ◌∙◌, ap, arith, subst, inl, inr, ◌⊎◌, IsTrue, true≢false}
-use Rattle.std.specs.Prelude.{nat_le, ◌||◌}
-use Rattle.std.specs.List.{list_any}
+use Rattle.std.proofs.Common.{◌≡◌, ℕ, ◌≤◌, Bool, true, false, List, ◌∷◌, length, sym, ◌∙◌, arith, subst, inl, inr, IsTrue, true≢false}
+use Rattle.std.specs.Prelude.{◌||◌}
 use Rattle.std.specs.declared.cmp.Ordering.{Ordering}
 use Rattle.std.specs.declared.cmp.Ordering.TheVariants.{Less}
 use Rattle.std.proofs.lemmas.Bool.{cases_Bool}
@@ -13,27 +11,12 @@ use mathlib.Core.WellFounded.{Acc, WellFounded}
 use mathlib.Core.WellFounded.Subrelation as Subrelation
 use mathlib.Core.WellFounded.InvImage as InvImage
 use Rattle.rinv_algebra.specs.Monomial.{divides}
-use Rattle.rinv_theory.proofs.Monoid.{Monomial, monomial}
+use Rattle.rinv_theory.proofs.Monoid.{monomial}
 use Rattle.rinv_groebner.specs.Orders.{OrdersMonomials}
 use Rattle.rinv_groebner.specs.Count.{is_undivided, AddsUndivided}
-use Rattle.rinv_groebner.proofs.AlmostFull.{AlmostFull, full-weaken, full-pullback, full-and, full-le}
-use Rattle.rinv_groebner.proofs.FirstVariables.{order_in, order_in-less, order_in-well}
-
--- no exponent of the first v is greater
-abbrev divides_first : ℕ → List ℕ → List ℕ → Bool
-divides_first zero a b = true
-divides_first (suc v) a b = nat_le (get_or a 0 0) (get_or b 0 0) && divides_first v (drop 1 a) (drop 1 b)
-
-first_full : (v : ℕ) → AlmostFull (divides_first v)
-first_full zero = AlmostFull.full (λ a b. refl)
-first_full (suc v) = full-and (full-pullback (λ (a : List ℕ). get_or a 0 0) full-le) (full-pullback (λ (a : List ℕ). drop 1 a) (first_full v))
-
-first-divides : (v : ℕ) (a b : List ℕ) → length a ≤ v → divides_first v a b ≡ true → IsTrue (divides a b)
-unfolding divides
-first-divides v [] b low h = refl
-first-divides zero (x ∷ a) b low h = absurd (omega arith)
-first-divides (suc v) (x ∷ a) [] low h = let r = first-divides v a [] (omega arith) (grind (arith, nat_tests, h)) in grind (arith, nat_tests, h, r)
-first-divides (suc v) (x ∷ a) (y ∷ b) low h = let r = first-divides v a b (omega arith) (grind (arith, nat_tests, h)) in grind (arith, nat_tests, h, r)
+use Rattle.rinv_groebner.proofs.AlmostFull.{AlmostFull}
+use Rattle.rinv_groebner.proofs.FullDivisors.{first_full, first-divides}
+use Rattle.rinv_groebner.proofs.FirstVariables.{order_in-less, order_in-well}
 
 -- the relation holds of undivided monomials only where the first divides the second
 abbrev Fits : ℕ → (List ℕ → List ℕ → Bool) → List (List ℕ) → Type 0

@@ -1,7 +1,8 @@
 -- The laws of division, over lists.
 --   division-identity    the polynomial is the sum of the quotients times the elements, and of what is left
+--   step-descends        what can be reduced after a step is less than what was cancelled
 --   division-bounded, left-bounded    no product, and nothing left, has a monomial above the greatest of the polynomial
-use Rattle.std.proofs.Common.{◌≡◌, ◌⊎◌, ℕ, Bool, true, false, not, List, [], ◌∷◌, ◌++◌, length, get_or, map, refl, sym, ◌∙◌, ap, subst, inl, inr, IsTrue, true≢false}
+use Rattle.std.proofs.Common.{◌≡◌, ℕ, Bool, true, false, not, List, [], ◌∷◌, ◌++◌, length, get_or, map, refl, sym, ◌∙◌, ap, subst, inl, inr, IsTrue}
 use Rattle.std.specs.Prelude.{filter, unwrap_or, if◌then◌else◌}
 use Rattle.std.specs.List.{reduce}
 use Rattle.std.specs.Ordering.{is_lt, is_ge}
@@ -15,18 +16,19 @@ use Rattle.rinv_algebra.proofs.PolynomialLaws.{poly_laws}
 use Rattle.rinv_algebra.proofs.Same.{same-coefficients}
 use Rattle.std.proofs.Math.Seq.{take-nil}
 use Rattle.rinv_theory.proofs.Places.{front-list}
-use Rattle.rinv_theory.proofs.Classes.{Class, class, class_sound, class_exact, class-add, class-zero}
+use Rattle.rinv_theory.proofs.Classes.{class, class_sound, class_exact, class-add, class-zero}
 use Rattle.rinv_theory.proofs.Monoid.{Monomial, monomial}
 use Rattle.rinv_theory.proofs.Polynomials.{polynomials}
 use Rattle.rinv_theory.proofs.Of.{Of, of-weaken}
 use Rattle.rinv_theory.proofs.Variables.{IsFront}
 use Rattle.rinv_theory.proofs.Leads.{IsUpTo, is_upto, lead-of, upto-from, above-from, upto-below}
 use Rattle.rinv_groebner.specs.Orders.{OrdersMonomials}
-use Rattle.rinv_groebner.specs.Division.{Step, quotient_at, quotients, Steps}
+use Rattle.rinv_groebner.specs.Division.{Step, quotient_at, quotients, is_reducible, IsStep, Steps}
 use Rattle.rinv_groebner.proofs.Greatest.{not_less}
-use Rattle.rinv_groebner.proofs.Compared.{all_monomials, InFirst, of_passes, has-coefficient, has_front, nonzero-front, class_leads, less_below}
+use Rattle.rinv_groebner.proofs.Compared.{all_monomials, InFirst, of_passes, has-coefficient, has_front, nonzero-front, class_leads, less_below, below_less}
 use Rattle.rinv_groebner.proofs.ListElements.{AllFirst}
-use Rattle.rinv_groebner.proofs.Paths.{Path, steps_path}
+use Rattle.rinv_groebner.proofs.StepClasses.{cancelled_front, step-first, step-falls}
+use Rattle.rinv_groebner.proofs.Paths.{steps_path}
 use Rattle.rinv_groebner.proofs.StepSums.{path-sum}
 use Rattle.rinv_groebner.proofs.StepMultiples.{Passes, path-of, path-products}
 
@@ -98,3 +100,9 @@ module _ {E : Type 0} (o : RingOps E) (l : RingLaws o) (cmp : List ℕ → List 
     -- and nothing that is left
     pub left-bounded : (left : Polynomial E) (steps : List (Step E)) → Steps o cmp hs f steps left → (m : List ℕ) → IsTrue (has_monomial o left m) → IsTrue (is_ge (cmp (leading_monomial o cmp f) m))
     left-bounded left steps r = within left (path-of o l cmp v order hs first is_bounded down (steps_path o cmp hs l r) bounded)
+
+module _ {E : Type 0} (o : RingOps E) (l : RingLaws o) (cmp : List ℕ → List ℕ → Ordering) (v : ℕ) (order : OrdersMonomials cmp v) where
+  -- what can be reduced after a step is less than what was cancelled
+  pub step-descends : {hs : List (Polynomial E)} → AllFirst o l v hs → {f left : Polynomial E} {s : Step E} → InFirst o l v f → (step : IsStep o cmp hs f s left) → (e : List ℕ) → IsTrue (has_monomial o left e) → IsTrue (is_reducible o cmp hs e) → cmp e step.cancelled ≡ Less
+  step-descends first {left = left} r step e has red =
+      below_less cmp v order e step.cancelled (has_front o l v left (step-first o l cmp step v order first r) e has) (cancelled_front o l cmp step v order first r) (step-falls o l cmp step v order first r e has red)

@@ -2,9 +2,8 @@
 --   count-less           the count of the monomials that pass a test
 --   reaches-less         of those that a polynomial reaches, where all terms of the next are below some monomial that it reaches
 --   undivided-less       of those that no monomial of a list divides, where one of them is added
-use Rattle.std.proofs.Common.{◌≡◌, ℕ, zero, suc, ◌+◌, ◌<◌, ◌≤◌, Bool, true, false, not, cond, List, [], ◌∷◌, ◌++◌, length, sum, refl, sym, ap, ◌∙◌, arith, subst, inl, inr, ◌⊎◌, IsTrue, true≢false}
-use Rattle.std.specs.Prelude.{◌||◌}
-use Rattle.std.specs.List.{list_any, list_all}
+use Rattle.std.proofs.Common.{◌≡◌, ℕ, zero, suc, ◌<◌, ◌≤◌, Bool, true, false, cond, List, [], ◌∷◌, ◌++◌, length, sum, refl, sym, ap, ◌∙◌, arith, subst, inl, inr, ◌⊎◌, IsTrue, true≢false}
+use Rattle.std.specs.List.{list_all}
 use Rattle.std.specs.Cmp.{IsTotalOrder}
 use Rattle.std.specs.Ordering.{is_lt, is_ge, ordering_reverse}
 use Rattle.std.proofs.lemmas.Cmp.{tied_itself}
@@ -58,7 +57,8 @@ count-less (suc v) d p q (x ∷ m) h len low off on =
     (omega arith)
     (count-less v d (λ e. p (x ∷ e)) (λ e. q (x ∷ e)) m (λ e. h (x ∷ e)) (omega arith) (omega arith) off on)
 
-is-less : (c : Ordering) → is_lt c ≡ true → c ≡ Less
+-- what tests as less is less
+pub is-less : (c : Ordering) → is_lt c ≡ true → c ≡ Less
 is-less Less e = refl
 is-less Equal e = absurd (true≢false (sym e))
 is-less Greater e = absurd (true≢false (sym e))

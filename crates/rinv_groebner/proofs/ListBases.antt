@@ -1,7 +1,7 @@
 -- A list of polynomials whose pairs are all good is a Gröbner basis of its ideal.
 --   member-multiples     a member of the ideal of a list is a sum of multiples of its elements that are not zero
 --   good_basis           Buchberger's criterion, for lists
-use Rattle.std.proofs.Common.{◌≡◌, ℕ, Bool, true, false, List, [], get_or, refl, sym, ◌∙◌, ap, ap₂, subst, IsTrue}
+use Rattle.std.proofs.Common.{◌≡◌, ℕ, Bool, true, false, List, [], get_or, refl, sym, ◌∙◌, ap, subst, IsTrue}
 use Rattle.std.specs.Prelude.{IsFalse}
 use Rattle.std.specs.declared.cmp.Ordering.{Ordering}
 use mathlib.Core.Bool.{Bool-set}
@@ -27,7 +27,7 @@ use Rattle.rinv_groebner.proofs.Multiples.{Multiples, AnyMultiples, multiples-ad
 use Rattle.rinv_groebner.proofs.Pairs.{IsGood}
 use Rattle.rinv_groebner.proofs.Criterion.{lead-divisible}
 use Rattle.rinv_groebner.proofs.FirstVariables.{order_in-well}
-use Rattle.rinv_groebner.proofs.Compared.{all_monomials, InFirst, class_leads}
+use Rattle.rinv_groebner.proofs.Compared.{InFirst, class_leads}
 use Rattle.rinv_groebner.proofs.ListElements.{AllFirst, Place, list_elements}
 use Rattle.rinv_groebner.proofs.Reducible.{place_reducible}
 
