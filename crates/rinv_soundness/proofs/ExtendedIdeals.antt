@@ -48,15 +48,15 @@ module _ (s : System) where
 
   -- h lies in the ideal of fs, where its variables stand behind the group's
   abbrev pub InIdeal : List Poly → Class (poly_ops (residue_ops s.p)) → Type 0
-  InIdeal fs h = In (poly_ring ops laws) (generator ops laws fs) ((move ops laws (group_count s)).at h)
+  InIdeal fs h = ∥ In (poly_ring ops laws) (generator ops laws fs) ((move ops laws (group_count s)).at h) ∥₁
 
   -- it is kept by sums
   pub ideal-add : (fs : List Poly) (x y : Class (poly_ops (residue_ops s.p))) → InIdeal fs x → InIdeal fs y → InIdeal fs ((poly_ring ops laws).add x y)
-  ideal-add fs x y r t = subst (In (poly_ring ops laws) (generator ops laws fs)) (sym ((move ops laws (group_count s)).add x y)) (in-add (poly_ring ops laws) (generator ops laws fs) r t)
+  ideal-add fs x y r t = ∥∥₁_elim r ∥∥₁_prop (λ r. ∥∥₁_map t (λ t. subst (In (poly_ring ops laws) (generator ops laws fs)) (sym ((move ops laws (group_count s)).add x y)) (in-add (poly_ring ops laws) (generator ops laws fs) r t)))
 
   -- and by multiples
   pub ideal-mul : (fs : List Poly) (u x : Class (poly_ops (residue_ops s.p))) → InIdeal fs x → InIdeal fs ((poly_ring ops laws).mul u x)
-  ideal-mul fs u x r = subst (In (poly_ring ops laws) (generator ops laws fs)) (sym ((move ops laws (group_count s)).mul u x)) (in-mul (poly_ring ops laws) (generator ops laws fs) ((move ops laws (group_count s)).at u) r)
+  ideal-mul fs u x r = ∥∥₁_map r (λ r. subst (In (poly_ring ops laws) (generator ops laws fs)) (sym ((move ops laws (group_count s)).mul u x)) (in-mul (poly_ring ops laws) (generator ops laws fs) ((move ops laws (group_count s)).at u) r))
 
   -- a multiple of f by some d lies in the ideal of fs
   abbrev pub Extended : List Poly → Class (poly_ops (rational_ops s.p)) → Type 0
@@ -71,7 +71,7 @@ module _ (s : System) where
     h_in_both = in_variables-of ops laws (2 * space_count s) e.h e.h_in_both;
     nonzero = nonzero-class ops laws e.d e.nonzero;
     multiple = sym (split_over-class ops laws field (space_count s) e.h) ∙ class_sound (poly_ops (rational_ops s.p)) (poly_laws (rational_ops s.p) (fraction_laws ops laws field)) _ _ e.multiple ∙ scale-class ops laws field e.d f;
-    property = subst (In (poly_ring ops laws) (generator ops laws (action_ideal s))) (past-class ops laws (group_count s) e.h) (member-in ops laws (action_ideal s) _ e.member);
+    property = ∣ subst (In (poly_ring ops laws) (generator ops laws (action_ideal s))) (past-class ops laws (group_count s) e.h) (member-in ops laws (action_ideal s) _ e.member) ∣₁;
   }
 
   -- what has such a multiple is in the extended ideal
@@ -79,7 +79,7 @@ module _ (s : System) where
   has-extended {x} a f at =
       ∥∥₁_elim (of-in_variables ops laws (space_count s) a.d_in_space) ∥∥₁_prop (λ (d, in_space, d_at).
       ∥∥₁_elim (of-in_variables ops laws (2 * space_count s) a.h_in_both) ∥∥₁_prop (λ (h, in_both, h_at).
-      ∥∥₁_map (in-member ops laws (action_ideal s) a.property (past (group_count s) h) (past-class ops laws (group_count s) h ∙ ap (move ops laws (group_count s)).at h_at)) (λ m. record {
+      ∥∥₁_elim a.property ∥∥₁_prop (λ inside. ∥∥₁_map (in-member ops laws (action_ideal s) inside (past (group_count s) h) (past-class ops laws (group_count s) h ∙ ap (move ops laws (group_count s)).at h_at)) (λ m. record {
         d = d;
         h = h;
         d_in_space = in_space;
@@ -89,4 +89,4 @@ module _ (s : System) where
             split_over-class ops laws field (space_count s) h ∙ ap (λ y. (over ops laws field).at ((nested ops laws field (space_count s)).at y)) h_at ∙ a.multiple
             ∙ ap₂ (λ y z. (over_ring ops laws field).mul (constant_over ops laws field y) z) (sym d_at) (sym at) ∙ sym (scale-class ops laws field d f));
         member = m;
-      })))
+      }))))

@@ -71,10 +71,10 @@ module _ {K P : Type 0} {𝓚 : CRing K} (𝓣 : TermRing 𝓚 monomials P) wher
   front-product v {y = y} Of.none r = subst (Of 𝓣 (IsFront v)) (sym (zero_mul 𝓣.ring y)) Of.none
   front-product v {y = y} (Of.more c m q s) r = subst (Of 𝓣 (IsFront v)) (sym (add_mul 𝓣.ring _ _ y)) (of-add 𝓣 (of-times 𝓣 c m (λ n p. front-mul v m n ∙ ap₂ monomials.mul q p) r) (front-product v s r))
 
-  -- the opposite of such a polynomial
-  pub front-neg : (v : ℕ) {x : P} → Of 𝓣 (IsFront v) x → Of 𝓣 (IsFront v) (𝓣.ring.neg x)
-  front-neg v Of.none = subst (Of 𝓣 (IsFront v)) (sym (add_neg 𝓣.ring 𝓣.ring.zero) ∙ 𝓣.ring.zero_add _) Of.none
-  front-neg v (Of.more {f = x} c m q r) = subst (Of 𝓣 (IsFront v)) (ap (λ y. 𝓣.ring.add y (𝓣.ring.neg x)) (term-neg 𝓣 c m) ∙ both (𝓣.term c m) x) (Of.more (𝓚.neg c) m q (front-neg v r))
+  -- the opposite has the same monomials
+  pub of-opposite : {Q : Monomial → Type 0} {x : P} → Of 𝓣 Q x → Of 𝓣 Q (𝓣.ring.neg x)
+  of-opposite {Q} Of.none = subst (Of 𝓣 Q) (sym (add_neg 𝓣.ring 𝓣.ring.zero) ∙ 𝓣.ring.zero_add _) Of.none
+  of-opposite {Q} (Of.more {f = x} c m q r) = subst (Of 𝓣 Q) (ap (λ y. 𝓣.ring.add y (𝓣.ring.neg x)) (term-neg 𝓣 c m) ∙ both (𝓣.term c m) x) (Of.more (𝓚.neg c) m q (of-opposite r))
     where
       both : (x y : P) → 𝓣.ring.add (𝓣.ring.neg x) (𝓣.ring.neg y) ≡ 𝓣.ring.neg (𝓣.ring.add x y)
       both x y = ring 𝓣.ring (x ∷ y ∷ []) (search reading depth 30) refl

@@ -4,6 +4,7 @@
 --   crossed_member       P(Z)*Q(x) - P(x)*Q(Z) lies in the action's ideal for an invariant P/Q
 --   lasting              no multiple of a nonzero Q(Z) by a nonzero d lies in the ideal of the group and the graph
 use Rattle.std.proofs.Common.{◌≡◌, ℕ, ◌+◌, ◌*◌, sym, ◌∙◌, ap, ap₂, subst, arith}
+use mathlib.Core.Logic.{∥∥₁_elim}
 use Rattle.rinv_algebra.specs.Residue.{residue_ops}
 use Rattle.rinv_algebra.specs.Polynomial.{poly_ops}
 use Rattle.rinv_algebra.proofs.PolynomialLaws.{poly_laws}
@@ -99,14 +100,14 @@ module _ (s : System) (form : HasForm s) where
         on x = (put (ops s) (laws s) (graph_point s)).at x
 
     -- P(Z)*Q(x) - P(x)*Q(Z) lies in the ideal of the group and the graph
-    pub crossed_member : ∥ InIdeal s (generators s form) (crossed (ops s) (laws s) (field s) (space_count s) (class (poly_ops (ops s)) f.0) (class (poly_ops (ops s)) f.1)) ∥₁
+    pub crossed_member : InIdeal s (generators s form) (crossed (ops s) (laws s) (field s) (space_count s) (class (poly_ops (ops s)) f.0) (class (poly_ops (ops s)) f.1))
     crossed_member = on_graph s form (moved_front (polynomials (ops s) (laws s)) (group_count s) (2 * space_count s) (crossed_in (ops s) (laws s) (field s) (space_count s) num_in den_in))
         (subst (In Ring (generator (ops s) (laws s) s.ideal)) (sym on-crossed) (member-in (ops s) (laws s) s.ideal (change s f) invariant.unchanged))
 
   module _ (first : LawHolds s L1) (moves_nothing : LawHolds s A1) where
     -- no multiple of a nonzero Q(Z) by a nonzero d lies in it
     pub lasting : {d Q : Class (poly_ops (residue_ops s.p))} → Spatial d → Spatial Q → (d ≡ Ring.zero → ⊥) → (Q ≡ Ring.zero → ⊥) → InIdeal s (generators s form) (Ring.mul ((move (ops s) (laws s) (space_count s)).at d) Q) → ⊥
-    lasting {d} {Q} d_in Q_in d_nonzero Q_nonzero r = d_nonzero ((poly_domain (ops s) (laws s) (field s)).no_divisors d Q (sym image ∙ at_unit s form first moves_nothing r) Q_nonzero)
+    lasting {d} {Q} d_in Q_in d_nonzero Q_nonzero r = ∥∥₁_elim r (λ a b. absurd a) (λ r. d_nonzero ((poly_domain (ops s) (laws s) (field s)).no_divisors d Q (sym image ∙ at_unit s form first moves_nothing r) Q_nonzero))
       where
         image : (put (ops s) (laws s) (unit_twice s)).at (behind_group.at (Ring.mul ((move (ops s) (laws s) (space_count s)).at d) Q)) ≡ Ring.mul d Q
         image = ap (put (ops s) (laws s) (unit_twice s)).at (behind_group.mul _ _) ∙ (put (ops s) (laws s) (unit_twice s)).mul _ _ ∙ ap₂ Ring.mul (unit_x d_in) (unit_z Q_in)

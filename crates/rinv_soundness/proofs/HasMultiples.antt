@@ -23,7 +23,7 @@ use Rattle.rinv_theory.proofs.Places.{front, back}
 use Rattle.rinv_theory.proofs.Variables.{IsFront}
 use Rattle.rinv_theory.proofs.Fields.{poly_domain, fraction_laws, fraction_field, class_domain}
 use Rattle.rinv_theory.proofs.Fractions.{polynomial_fractions, constant_cancels}
-use Rattle.rinv_soundness.proofs.FirstVariables.{front-product, front-neg, more_variables, moved_front, constant_front}
+use Rattle.rinv_soundness.proofs.FirstVariables.{front-product, of-opposite, more_variables, moved_front, constant_front}
 use Rattle.rinv_soundness.proofs.Substituting.{move}
 use Rattle.rinv_soundness.proofs.PlaceFacts.{nest-behind, nest-coefficient, nest-of}
 use Rattle.rinv_soundness.proofs.OverFractions.{Inner, Over, over_ring, nested, into, over, constant_over, over-term, over-coefficient, constant_over-coefficient}
@@ -78,7 +78,7 @@ module _ {E : Type 0} (o : RingOps E) (l : RingLaws o) (field : FieldLaws o) (n 
   crossed_in {P} {Q} r t =
       let more : n ≤ 2 * n = omega arith in
       of-add (polynomials o l) (front-product (polynomials o l) (2 * n) (more_variables (polynomials o l) n (2 * n) more r) (behind_z t))
-      (front-neg (polynomials o l) (2 * n) (front-product (polynomials o l) (2 * n) (behind_z r) (more_variables (polynomials o l) n (2 * n) more t)))
+      (of-opposite (polynomials o l) (front-product (polynomials o l) (2 * n) (behind_z r) (more_variables (polynomials o l) n (2 * n) more t)))
 
   -- what is asked of h itself
   pub multiple-of : {M : Inner o l field → Type 0} {h : Inner o l field} → InVariables (2 * n) h → M h → HasMultiple M (read h)

@@ -13,3 +13,13 @@ pub mod SpatialValues
 pub mod Ratios
 pub mod GraphImages
 pub mod LowestMembers
+pub mod Rewritten
+pub mod Vanishing
+pub mod FullParts
+pub mod SettledEntries
+pub mod CoveredLeads
+pub mod TiedRelations
+pub mod LowestOfBasis
+pub mod Searching
+pub mod CertificateRewriting
+pub mod DividingRelations

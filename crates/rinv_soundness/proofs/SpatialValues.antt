@@ -120,7 +120,8 @@ module _ {E : Type 0} (o : RingOps E) (l : RingLaws o) (field : FieldLaws o) (n 
         ap spatial.at (values-term o l field c b m) ∙ relabel-term (polynomials (fraction_ops o) (fraction_laws o l field)) (polynomials (fraction_ops o) (fraction_laws o l field)) (front n) (front-mul n) _ m ∙ split_term (polynomials (fraction_ops o) (fraction_laws o l field)) _ (front n m)
         ∙ ap ((over_ring o l field).mul _) (sym (ap (over o l field).at (outer-term (polynomials o l) (polynomials (poly_ops o) (poly_laws o l)) _ (front n m)) ∙ over-term o l field _ (front n m) ∙ ap (λ x. term_at (fraction_ops o) (fraction_laws o l field) x (front n m)) (ap (into o l field).at (polynomials o l).term_one ∙ (into o l field).one)))
 
-    nothing-multiple : {M : Inner o l field → Type 0} → M (poly_ring o l).zero → HasMultiple o l field n M (over_ring o l field).zero
+    -- zero has one, where M holds of zero
+    pub nothing-multiple : {M : Inner o l field → Type 0} → M (poly_ring o l).zero → HasMultiple o l field n M (over_ring o l field).zero
     nothing-multiple {M} z = subst (HasMultiple o l field n M) (ap (over o l field).at (hom-zero (nested o l field n)) ∙ hom-zero (over o l field)) (multiple-of o l field n Of.none z)
 
     -- the value of a polynomial in Z over symbols has one, where the later variables are put 1
