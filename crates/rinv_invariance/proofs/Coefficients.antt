@@ -124,8 +124,8 @@ module _ (s : System) where
         lacks b (e, at_b, divided) = lacking r a b (ap (coefficient_over s (tail_class s r)) (sym at_b) ∙ tail-zero s rs r reduced e (sym (any-map (λ r. r.lead) _ rs) ∙ divided))
 
         parts : ∥ In (moving s).ring (Multiples (coordinates s) (group_ideal s)) (turned s a.d (part s (monomial m) a.h)) ∥₁
-        parts = parts_member s (retracted s) (retracted-number s) (retracted-kept s) (moved_all-later s form) (λ x i. moved_member s form (section_front s system) (laws_at s form (ideal.κ s) all_laws) i)
-            (IsReducibleBy (map (λ r. r.lead) rs)) (standard_zero s rs basis) a.d a.h (retract-front (poly_terms s.p) _ (behind_z (ops s) (laws s) (field s) (space_count s) a.d_in_space)) (retract-front (poly_terms s.p) _ a.h_in_both) lacks a.property (monomial m)
+        parts = ∥∥₁_elim a.property ∥∥₁_prop (λ i. parts_member s (retracted s) (retracted-number s) (retracted-kept s) (moved_all-later s form) (λ x i. moved_member s form (section_front s system) (laws_at s form (ideal.κ s) all_laws) i)
+            (IsReducibleBy (map (λ r. r.lead) rs)) (standard_zero s rs basis) a.d a.h (retract-front (poly_terms s.p) _ (behind_z (ops s) (laws s) (field s) (space_count s) a.d_in_space)) (retract-front (poly_terms s.p) _ a.h_in_both) lacks i (monomial m))
 
         equal : (poly_terms s.p).ring.mul (poly_class s.p f.0) a.d ≡ (poly_terms s.p).ring.mul (tail_part r a (monomial m)) (poly_class s.p f.1)
         equal = (polynomial_fractions (ops s) (laws s) (field s)).injective _ _ (

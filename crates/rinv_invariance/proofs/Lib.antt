@@ -26,3 +26,4 @@ pub mod FoundExtended
 pub mod SpaceMonomials
 pub mod LaterVariables
 pub mod SpaceLeads
+pub mod InOrder

@@ -41,7 +41,7 @@ use Rattle.rinv_invariance.proofs.MovedIdeal.{graph_ideal}
 use Rattle.rinv_invariance.proofs.RelationClasses.{rationals, over_terms, coefficient_over, tail_class, relation-class, relation-coefficient, tail-zero}
 
 -- no relation
-abbrev none : Relation
+abbrev pub none : Relation
 none = record { lead = []; tail = [] }
 
 -- a monomial divides itself
@@ -80,7 +80,7 @@ module _ (s : System) where
         minus_zero x = ring (rationals s) (x ∷ []) (search reading depth 30) refl
 
     -- so its lead is a monomial in Z
-    lead-front : (k : ℕ) → k < length rs → IsFront (space_count s) (monomial (relation_at k).lead)
+    pub lead-front : (k : ℕ) → k < length rs → IsFront (space_count s) (monomial (relation_at k).lead)
     lead-front k low = go (monomials.same (front (space_count s) (monomial (relation_at k).lead)) (monomial (relation_at k).lead)) refl
       where
         one_zero : (rationals s).one ≡ (rationals s).zero → ⊥
@@ -170,7 +170,7 @@ module _ (s : System) where
             ∙ no_tails _ _ _ (tail-zero_at rs basis k low a (reducible_there a h).0) (tail-zero_at qs other j inside a (reducible_there a h).1))
 
         zero_member : InIdeal s (action_ideal s) (poly_terms s.p).ring.zero
-        zero_member = subst (In (poly_terms s.p).ring (graph_ideal s)) (sym (hom-zero (move (residue_ops s.p) (residue_laws s.p) (group_count s)))) In.none
+        zero_member = ∣ subst (In (poly_terms s.p).ring (graph_ideal s)) (sym (hom-zero (move (residue_ops s.p) (residue_laws s.p) (group_count s)))) In.none ∣₁
 
         nothing : (over_terms s).ring.add first ((over_terms s).ring.neg second) ≡ (over_terms s).ring.zero
         nothing = basis-lowest s rs basis _ (multiple-add (ops s) (laws s) (field s) (space_count s) (ideal-add s (action_ideal s)) (ideal-mul s (action_ideal s)) (member_at rs basis k low) (multiple-neg (ops s) (laws s) (field s) (space_count s) zero_member (ideal-add s (action_ideal s)) (ideal-mul s (action_ideal s)) (member_at qs other j inside))) lacks

@@ -163,8 +163,8 @@ module _ (s : System) where
               h_in_both = behind_z (ops s) (laws s) (field s) (space_count s) in_space.1;
               nonzero = λ z. nonzero-class (residue_ops s.p) (residue_laws s.p) (get_or hs p []) nonzero (sym in_space.2 ∙ ap behind_all z ∙ hom-zero (move (residue_ops s.p) (residue_laws s.p) before));
               multiple = read-move (ops s) (laws s) (field s) (space_count s) in_space.0 ∙ sym (mul_one (over_ring (ops s) (laws s) (field s)) _);
-              property = subst (In (poly_terms s.p).ring (generator (residue_ops s.p) (residue_laws s.p) (action_ideal s))) (sym in_space.2 ∙ sym (move-move (residue_ops s.p) (residue_laws s.p) (group_count s) (space_count s) in_space.0))
-                  (member-in (residue_ops s.p) (residue_laws s.p) (action_ideal s) (get_or hs p []) (all_recursively (IsMember (residue_ops s.p) (action_ideal s)) hs p [] low basis.ideal.0));
+              property = ∣ subst (In (poly_terms s.p).ring (generator (residue_ops s.p) (residue_laws s.p) (action_ideal s))) (sym in_space.2 ∙ sym (move-move (residue_ops s.p) (residue_laws s.p) (group_count s) (space_count s) in_space.0))
+                  (member-in (residue_ops s.p) (residue_laws s.p) (action_ideal s) (get_or hs p []) (all_recursively (IsMember (residue_ops s.p) (action_ideal s)) hs p [] low basis.ideal.0)) ∣₁;
             }
 
         found : (p : ℕ) × (p < length hs) × IsTrue (leads_in_space s (get_or hs p [])) × ((j : ℕ) → j < p → IsFalse (leads_in_space s (get_or hs j []))) → Misses s

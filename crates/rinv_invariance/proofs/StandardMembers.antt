@@ -57,7 +57,7 @@ module _ (s : System) where
   pub standard_zero : (rs : List Relation) → IsReducedBasis s rs → (w : PolyClass s.p) → retracted.at w ≡ w → ((b : Monomial) → IsReducibleBy (map (λ r. r.lead) rs) b → part s b w ≡ (poly_terms s.p).ring.zero)
       → In (poly_terms s.p).ring (graph_ideal s) ((move (residue_ops s.p) (residue_laws s.p) (group_count s)).at w) → w ≡ (poly_terms s.p).ring.zero
   standard_zero rs basis w kept lacks r = ∥∥₁_elim (of_any (poly_terms s.p) w) ((poly_terms s.p).ring.is_set _ _) (λ o. back (basis-lowest s rs basis (read (ops s) (laws s) (field s) (space_count s) w)
-      (multiple-of (ops s) (laws s) (field s) (space_count s) (subst (Of (poly_terms s.p) (IsFront (2 * space_count s))) kept (retract_front (poly_terms s.p) (2 * space_count s) o)) r)
+      (multiple-of (ops s) (laws s) (field s) (space_count s) (subst (Of (poly_terms s.p) (IsFront (2 * space_count s))) kept (retract_front (poly_terms s.p) (2 * space_count s) o)) ∣ r ∣₁)
       (λ b q. over-coefficient (ops s) (laws s) (field s) _ b ∙ ap (into (ops s) (laws s) (field s)).at (sym (part-nested s b w) ∙ lacks b q) ∙ hom-zero (into (ops s) (laws s) (field s)))))
     where
       back : read (ops s) (laws s) (field s) (space_count s) w ≡ (over_ring (ops s) (laws s) (field s)).zero → w ≡ (poly_terms s.p).ring.zero
