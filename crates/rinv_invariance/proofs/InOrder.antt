@@ -1,20 +1,13 @@
 -- Two reduced bases of one extended ideal whose leads ascend are the same, place by place.
---   Ascending            the leads ascend
---   IsTwin               one lead, and one tail up to values
 --   basis_in_order       the fact
-use Rattle.std.proofs.Common.{◌≡◌, ℕ, zero, suc, ◌<◌, List, [], ◌∷◌, length, map, get_or, refl, sym, ◌∙◌, ap, ap₂, subst, arith}
-use Rattle.std.specs.Prelude.{AllPairs, IsTrue}
+use Rattle.std.proofs.Common.{◌≡◌, ℕ, suc, ◌<◌, List, [], ◌∷◌, length, map, get_or, sym, ◌∙◌, ap, ap₂, subst, arith}
 use Rattle.std.specs.List.{AllZip}
-use Rattle.std.specs.declared.cmp.Ordering.TheVariants.{Less}
 use Rattle.std.proofs.lemmas.List.{length-map, get_or-map}
 use mathlib.Core.HLevel.{Σ_set}
-use Rattle.rinv_algebra.specs.Ring.{IsSame}
-use Rattle.rinv_algebra.specs.Monomial.{same_monomial}
 use Rattle.rinv_algebra.specs.Order.{grevlex}
 use Rattle.rinv_algebra.specs.Polynomial.{poly_ops}
 use Rattle.rinv_algebra.proofs.Grevlex.{grevlex_laws, grevlex_ties}
 use Rattle.rinv_algebra.proofs.PolynomialLaws.{poly_laws}
-use Rattle.rinv_theory.proofs.CRing.{CRing}
 use Rattle.rinv_theory.proofs.Classes.{Class, class_exact}
 use Rattle.rinv_theory.proofs.Monoid.{Monomial, monomial, monomials, monomial_exact}
 use Rattle.rinv_theory.proofs.Leads.{MonomialOrder}
@@ -27,18 +20,11 @@ use Rattle.rinv_soundness.proofs.ExtendedIdeals.{ops, laws, field}
 use Rattle.rinv_defs.specs.System.{System, space_count}
 use Rattle.rinv_defs.specs.Generators.{rational_ops}
 use Rattle.rinv_defs.specs.Extended.{Relation, IsReducedBasis}
+use Rattle.rinv_invariance.specs.Twins.{AreAscending, IsTwin}
 use Rattle.rinv_invariance.proofs.RelationClasses.{over_terms, tail_class}
 use Rattle.rinv_invariance.proofs.SameBases.{none, lead-front, matched, equal_tails}
 
 module _ (s : System) where
-  -- the leads ascend
-  abbrev Ascending : List Relation → Type 0
-  Ascending rs = AllPairs (λ r q. grevlex r.lead q.lead ≡ Less) rs
-
-  -- one lead, and one tail
-  abbrev IsTwin : Relation → Relation → Type 0
-  IsTwin r q = IsTrue (same_monomial r.lead q.lead) × IsSame (poly_ops (rational_ops s.p)) r.tail q.tail
-
   abbrev Key : Type 0
   Key = Monomial × Class (poly_ops (rational_ops s.p))
 
@@ -58,7 +44,7 @@ module _ (s : System) where
   bounds x [] h = Bounds.no_more
   bounds x (y ∷ ys) h = Bounds.and (h 0 (omega arith)) (bounds x ys (λ k low. h (suc k) (omega (arith, low))))
 
-  ascends : (xs : List Relation) → ((k : ℕ) → k < length xs → IsFront (space_count s) (monomial (get_or xs k none).lead)) → Ascending xs → Ascends IsLess (map key xs)
+  ascends : (xs : List Relation) → ((k : ℕ) → k < length xs → IsFront (space_count s) (monomial (get_or xs k none).lead)) → AreAscending xs → Ascends IsLess (map key xs)
   ascends [] f h = Ascends.empty
   ascends (x ∷ xs) f h = Ascends.begin
       (bounds (key x) xs (λ k low. less_below grevlex (space_count s) in_order x.lead (get_or xs k none).lead (f 0 (omega arith)) (f (suc k) (omega (arith, low))) (h 0 (suc k) none (omega arith) (omega (arith, low)))))
@@ -67,7 +53,7 @@ module _ (s : System) where
   key_set : IsSet Key
   key_set = Σ_set monomials.is_set (λ m. (over_terms s).ring.is_set)
 
-  zipped : (rs qs : List Relation) → map key rs ≡ map key qs → AllZip IsTwin rs qs
+  zipped : (rs qs : List Relation) → map key rs ≡ map key qs → AllZip (IsTwin s) rs qs
   zipped [] [] e = tt
   zipped [] (q ∷ qs) e = absurd (let n : 0 ≡ suc (length (map key qs)) = ap length e in omega (arith, n))
   zipped (r ∷ rs) [] e = absurd (let n : suc (length (map key rs)) ≡ 0 = ap length e in omega (arith, n))
@@ -81,7 +67,7 @@ module _ (s : System) where
       rest [] = []
       rest (x ∷ xs) = xs
 
-      twin : key r ≡ key q → IsTwin r q
+      twin : key r ≡ key q → IsTwin s r q
       twin e = (monomial_exact r.lead q.lead (ap (λ x. x.0) e), class_exact (poly_ops (rational_ops s.p)) (poly_laws (rational_ops s.p) (fraction_laws (ops s) (laws s) (field s))) r.tail q.tail (ap (λ x. x.1) e))
 
   within : (rs qs : List Relation) → IsReducedBasis s rs → IsReducedBasis s qs → (z : Key) → Has z (map key rs) → ∥ Has z (map key qs) ∥₁
@@ -93,6 +79,6 @@ module _ (s : System) where
       ∣ subst (λ x. Has x (map key qs)) (get_or-map key qs j none (key none) far ∙ ap₂ (λ m t. (m, t)) same (sym (equal_tails s rs qs basis other k j inside far same)) ∙ sym (get_or-map key rs k none (key none) inside) ∙ e) (has_at (key none) (map key qs) j there) ∣₁
 
   -- two such bases are the same, place by place
-  pub basis_in_order : (rs qs : List Relation) → IsReducedBasis s rs → IsReducedBasis s qs → Ascending rs → Ascending qs → AllZip IsTwin rs qs
+  pub basis_in_order : (rs qs : List Relation) → IsReducedBasis s rs → IsReducedBasis s qs → AreAscending rs → AreAscending qs → AllZip (IsTwin s) rs qs
   basis_in_order rs qs basis other up up' = zipped rs qs (ascending-equal IsLess (λ a b c p q. order.trans a.0 b.0 c.0 p q) (λ a p. order.irreflexive a.0 p) key_set (map key rs) (map key qs)
       (ascends rs (lead-front s rs basis) up) (ascends qs (lead-front s qs other) up') (within rs qs basis other) (within qs rs other basis))

@@ -8,9 +8,8 @@ use Rattle.std.specs.Prelude.{All, Contains, IsTrue, IsFalse}
 use Rattle.std.specs.List.{list_any}
 use Rattle.std.proofs.lemmas.List.Elements.{All-cons, All-nil, Contains-get_or}
 use Rattle.std.proofs.lemmas.List.Folds.{list_any_at}
-use Rattle.rinv_algebra.specs.Ring.{IsSame}
 use Rattle.rinv_algebra.specs.Residue.{residue_ops}
-use Rattle.rinv_algebra.specs.Monomial.{same_monomial, divides}
+use Rattle.rinv_algebra.specs.Monomial.{divides}
 use Rattle.rinv_algebra.specs.Polynomial.{poly_ops, has_monomial}
 use Rattle.rinv_algebra.proofs.MonomialLaws.{same_from}
 use Rattle.rinv_algebra.proofs.ResidueLaws.{residue_laws}
@@ -36,6 +35,7 @@ use Rattle.rinv_soundness.proofs.LowestMembers.{IsReducibleBy, any-map, basis-lo
 use Rattle.rinv_defs.specs.System.{System, group_count, space_count}
 use Rattle.rinv_defs.specs.Generators.{rational_ops}
 use Rattle.rinv_defs.specs.Extended.{Relation, relation_poly, action_ideal, is_reducible, InExtendedIdeal, IsReducedBasis}
+use Rattle.rinv_invariance.specs.Twins.{IsTwin}
 use Rattle.rinv_invariance.proofs.Points.{poly_terms}
 use Rattle.rinv_invariance.proofs.MovedIdeal.{graph_ideal}
 use Rattle.rinv_invariance.proofs.RelationClasses.{rationals, over_terms, coefficient_over, tail_class, relation-class, relation-coefficient, tail-zero}
@@ -177,12 +177,12 @@ module _ (s : System) where
 
     -- a relation of the other with this lead and this tail
     abbrev pub HasTwin : Relation → Type 0
-    HasTwin r = (q : Relation) × Contains qs q × IsTrue (same_monomial r.lead q.lead) × IsSame (poly_ops (rational_ops s.p)) r.tail q.tail
+    HasTwin r = (q : Relation) × Contains qs q × IsTwin s r q
 
     twin_at : (k : ℕ) → k < length rs → HasTwin (get_or rs k none)
     twin_at k low =
         let (j, inside, e) = matched k low in
-        (get_or qs j none, Contains-get_or qs j none inside, monomial_exact _ _ (sym e), class_exact (poly_ops (rational_ops s.p)) (poly_laws (rational_ops s.p) (fraction_laws (ops s) (laws s) (field s))) _ _ (equal_tails k j low inside e))
+        (get_or qs j none, Contains-get_or qs j none inside, (monomial_exact _ _ (sym e), class_exact (poly_ops (rational_ops s.p)) (poly_laws (rational_ops s.p) (fraction_laws (ops s) (laws s) (field s))) _ _ (equal_tails k j low inside e)))
 
     -- each relation has one
     pub basis_same : All HasTwin rs

@@ -3,11 +3,10 @@
 #![tactic(auto)]
 
 ghost use Rattle.std.specs.Prelude.{◌↔◌, ◌+◌, ◌*◌, ℕ, List, All, Contains, IsTrue};
-ghost use Rattle.std.specs.List.{list_any};
+ghost use Rattle.std.specs.List.{AllZip, list_any};
 ghost use Rattle.rinv_algebra.specs.Ring.{IsSame};
 ghost use Rattle.rinv_algebra.specs.Residue.{residue_ops};
-ghost use Rattle.rinv_algebra.specs.Monomial.{same_monomial};
-ghost use Rattle.rinv_algebra.specs.Polynomial.{poly_ops, coefficient};
+ghost use Rattle.rinv_algebra.specs.Polynomial.{coefficient};
 ghost use Rattle.rinv_defs.specs.System.{System, Poly, group_count, space_count};
 ghost use Rattle.rinv_defs.specs.SystemForm.{IsSystem};
 ghost use Rattle.rinv_defs.specs.Laws.{AllLawsHold};
@@ -17,6 +16,7 @@ ghost use Rattle.rinv_defs.specs.Extended.{FractionPoly, Relation, InExtendedIde
 ghost use Rattle.rinv_defs.specs.PairConditions.{action_order};
 ghost use Rattle.rinv_groebner.specs.Basis.{IsGroebnerBasis};
 ghost use Rattle.rinv_groebner.specs.Orders.{AreInVariables};
+ghost use Rattle.rinv_invariance.specs.Twins.{AreAscending, IsTwin};
 ghost use Rattle.rinv_invariance.specs.InSpace.{leads_in_space};
 ghost use Rattle.rinv_invariance.specs.Replaced.{with_ideal, GenerateSame};
 
@@ -26,10 +26,13 @@ pub fn reduced_coefficients_are_invariant()
         All (λ r. (m : List ℕ) (f : Fraction) → IsFraction s f → IsSame (rational_ops s.p) f (coefficient (rational_ops s.p) r.tail m) → IsInvariant s f) rs }
 {}
 
-/// Two reduced bases of one extended ideal are the same, up to order: each relation of the one is in the other, its tail up to values.
+/// Two reduced bases of one extended ideal are the same: each relation of the one is in the other, its coefficients up to their
+/// values, and where the leads of both ascend, it is at the same place.
 pub fn reduced_basis_is_unique()
-    ensures { (s : System) (rs qs : List Relation) → IsReducedBasis s rs → IsReducedBasis s qs →
-        All (λ r. (q : Relation) × Contains qs q × IsTrue (same_monomial r.lead q.lead) × IsSame (poly_ops (rational_ops s.p)) r.tail q.tail) rs }
+    ensures up_to_order { (s : System) (rs qs : List Relation) → IsReducedBasis s rs → IsReducedBasis s qs →
+        All (λ r. (q : Relation) × Contains qs q × IsTwin s r q) rs }
+    ensures in_order { (s : System) (rs qs : List Relation) → IsReducedBasis s rs → IsReducedBasis s qs → AreAscending rs → AreAscending qs →
+        AllZip (IsTwin s) rs qs }
 {}
 
 /// The extended ideal depends on the ideals that the group's polynomials and the section's generate, and so do its reduced bases.
