@@ -26,3 +26,4 @@ pub mod FractionLaws
 pub mod Fields
 pub mod Fractions
 pub mod Examples
+pub mod Search
