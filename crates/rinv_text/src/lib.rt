@@ -1,0 +1,8 @@
+//! Names of variables, and polynomials as text.
+#![tactic(auto)]
+
+mod fault;
+mod names;
+
+pub use fault::{TextCode, TextFault, TextStop};
+pub use names::Names;
