@@ -1,0 +1,5 @@
+pub mod NamesInTurn
+mod Keys
+mod Absent
+mod MadeNames
+mod WordsInTurn

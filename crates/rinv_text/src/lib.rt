@@ -2,7 +2,9 @@
 #![tactic(auto)]
 
 mod fault;
+mod form;
 mod names;
 
 pub use fault::{TextCode, TextFault, TextStop};
+pub use form::has_name_form;
 pub use names::Names;
