@@ -3,3 +3,8 @@ mod Keys
 mod Absent
 mod MadeNames
 mod WordsInTurn
+pub mod Joined
+mod TermsInTurn
+mod Descending
+mod SortedMonomials
+mod DescendingTerms

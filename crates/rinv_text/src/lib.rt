@@ -4,7 +4,10 @@
 mod fault;
 mod form;
 mod names;
+mod polynomial;
+mod terms;
 
 pub use fault::{TextCode, TextFault, TextStop};
 pub use form::has_name_form;
 pub use names::Names;
+pub use polynomial::{write_poly, written};

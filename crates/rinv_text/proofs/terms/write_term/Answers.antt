@@ -1,8 +1,8 @@
 use Rattle.std.proofs.Common.{◌<◌, ◌++◌, ◌∙◌, List, ℕ, length, get_or, sym, ap, arith, codes}
 use Rattle.rinv_defs.specs.Text.{join}
-use Rattle.rinv_app.specs.Pieces.{is_nil, coefficient_pieces}
-use Rattle.rinv_app.proofs.Joined.{factor-step, nil-step, pieces-none, pieces-all}
-use Rattle.rinv_app.proofs.text.write_term.Goals as goal
+use Rattle.rinv_text.specs.Pieces.{is_nil, coefficient_pieces}
+use Rattle.rinv_text.proofs.Joined.{factor-step, nil-step, pieces-none, pieces-all}
+use Rattle.rinv_text.proofs.terms.write_term.Goals as goal
 
 pub factors-init : goal.factors-init
 factors-init c =
@@ -18,10 +18,9 @@ factors-preserved c =
     let k = c.factors.k in
     let in_names : k < length c.args.names.now = omega arith in
     let in_mono : k < length c.args.mono.now = omega arith in
-    let exponent = ap (λ (es : List ℕ). get_or es k 0) c.exponents-exponents.ensures in
     record {
-      written = factor-step _ _ _ start c.args.names.now c.args.mono.now k _ _ _ in_names in_mono c.index-names-k.is exponent c.factors.invariant.none c.factors.invariant.written c.in_ok-first-2.ensures.text;
-      none = nil-step start c.args.names.now c.args.mono.now k _ _ _ in_names in_mono exponent c.factors.invariant.none c.in_ok-first-2.ensures.first;
+      written = factor-step _ _ _ start c.args.names.now c.args.mono.now k _ _ _ in_names in_mono c.name.ensures c.exponent.ensures c.factors.invariant.none c.factors.invariant.written c.in_ok-first-2.ensures.text;
+      none = nil-step start c.args.names.now c.args.mono.now k _ _ _ in_names in_mono c.exponent.ensures c.factors.invariant.none c.in_ok-first-2.ensures.first;
     }
 
 pub returns : goal.returns

@@ -1,6 +1,5 @@
 -- The terms of a stored polynomial, sorted by Grevlex from the greatest down, are those that are printed.
 --   descending_terms-of    a sort's result is descending_terms
---   vars-permutation       the terms in any order have an exponent for each variable
 use Rattle.std.proofs.Common.{◌≡◌, ℕ, ◌+◌, ◌%◌, ◌<◌, true, false, List, [], ◌∷◌, map, length, get_or, refl, sym, ap, ◌∙◌, arith, inl, inr, subst, IsTrue, All}
 use Rattle.std.specs.Prelude.{nat_lt}
 use Rattle.std.specs.List.{IsDistinct, AllByRecursion}
@@ -26,8 +25,8 @@ use Rattle.rinv_poly.proofs.Lexicographic.{not_less}
 use Rattle.rinv_poly.proofs.Forms.{IsOrdered, IsNormalTerm, ordered-from_normal, ordered-head, ordered-tail, descending-head}
 use Rattle.rinv_poly.proofs.NormalFacts.{monomials-ordered, coefficient-of_term}
 use Rattle.rinv_defs.specs.Text.{descending, descending_terms}
-use Rattle.rinv_app.proofs.Descending.{Has, Descends, HaveLength, descending-of}
-use Rattle.rinv_app.proofs.SortedMonomials.{place-of, Has-permutation, Descends-from_sorted}
+use Rattle.rinv_text.proofs.Descending.{Has, Descends, HaveLength, descending-of}
+use Rattle.rinv_text.proofs.SortedMonomials.{place-of, Has-permutation, Descends-from_sorted}
 
 -- the monomials of terms
 abbrev pub monomials_of : Polynomial ℕ → List (List ℕ)
@@ -99,8 +98,3 @@ descending_terms-of p v f ts listed normal moved sorted =
     sym (ap (λ (ns : List (List ℕ)). map (λ m. (m, residue p (coefficient (residue_ops p) f m))) (descending ns)) (monomials-ordered (residue_ops p) (residue_laws p) (λ c. nat_lt c p) v f n)
     ∙ ap (λ (ns : List (List ℕ)). map (λ m. (m, residue p (coefficient (residue_ops p) f m))) ns) order
     ∙ restored p f ts residues)
-
--- the terms of a stored polynomial have an exponent for each variable, in any order
-pub vars-permutation : (p v : ℕ) (f ts : Polynomial ℕ) → IsNormal (residue_ops p) (λ c. nat_lt c p) v f → IsPermutation f ts → All (λ t. length t.0 ≡ v) ts
-vars-permutation p v f ts normal moved =
-    All-permutation (λ (t : Term ℕ). length t.0 ≡ v) f ts moved (λ k d h. ((ordered-from_normal (residue_ops p) (λ c. nat_lt c p) v f normal).terms k d h).vars)
