@@ -8,3 +8,5 @@ mod TermsInTurn
 mod Descending
 mod SortedMonomials
 mod DescendingTerms
+mod OneTerm
+pub mod Lengths
