@@ -8,6 +8,7 @@ use Rattle.rinv_algebra.specs.Monomial.{same_monomial, total_degree, max_degree}
 use Rattle.rinv_algebra.specs.Residue.{is_listed, residue_ops}
 use Rattle.rinv_algebra.specs.Polynomial.{Term, Polynomial, constant, same, poly_ops}
 use Rattle.rinv_algebra.specs.Normal.{IsNormal}
+use Rattle.rinv_algebra.proofs.Same.{both}
 use Rattle.rinv_algebra.proofs.PolynomialLaws.{poly_laws}
 use Rattle.rinv_algebra.proofs.ResidueLaws.{residue_laws}
 use Rattle.rinv_algebra.proofs.ResidueField.{residue_field_laws}
@@ -16,11 +17,6 @@ use Rattle.rinv_poly.specs.Terms.{with_term}
 use Rattle.rinv_poly.proofs.Residues.{equal-normal}
 use Rattle.rinv_poly.proofs.Units.{zeros-one, one-normal, one-same, term-same_monomial}
 use Rattle.rinv_text.specs.Pieces.{is_one_term}
-
-and_both : (a b : Bool) → (a && b) ≡ true → (a ≡ true) × (b ≡ true)
-and_both true true e = (refl, refl)
-and_both true false e = absurd (true≢false (sym e))
-and_both false b e = absurd (true≢false (sym e))
 
 -- a monomial of degree 0 is 1
 degree-none : (m : List ℕ) → total_degree m ≡ 0 → same_monomial m [] ≡ true
@@ -67,7 +63,7 @@ module _ (p v : ℕ) (listed : IsTrue (is_listed p)) where
       back : (d : Polynomial ℕ) → is_one_term d ≡ true → same (residue_ops p) d (constant (residue_ops p) 1) ≡ true
       back [] e = absurd (true≢false (sym e))
       back (t ∷ []) e =
-          let h = and_both (t.1 == 1) (total_degree t.0 == 0) e in
+          let h = both (t.1 == 1) (total_degree t.0 == 0) e in
           let coefficient : t.1 ≡ 1 = eqb-true t.1 1 h.0 in
           subst (λ c. IsSame (poly_ops (residue_ops p)) ((t.0, c) ∷ []) (constant (residue_ops p) 1)) (sym coefficient)
           (term-same_monomial (residue_ops p) (residue_laws p) t.0 [] 1 (degree-none t.0 (eqb-true (total_degree t.0) 0 h.1)))

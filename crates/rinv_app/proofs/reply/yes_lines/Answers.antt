@@ -17,11 +17,14 @@ yes-of c p names fs empty out out' out'' kind ps ns are none first lines last =
     ∙ ap (λ (gs : List Fraction). (codes "yes\n" ++ fraction_lines c.system.p c.system.space 1 gs) ++ codes "invariant\n") are
     ∙ ap (λ (k : Kind). (codes "yes\n" ++ fraction_lines c.system.p c.system.space 1 c.fractions) ++ kind_text k) (sym kind)
 
+pub names_of-requires-clause-form : goal.names_of-requires-clause-form
+names_of-requires-clause-form c = ?
+
 pub returns : goal.returns
 returns c =
     yes-of c.args.certificate.now _ _ _ _ _ _ _
     (sym (ap (λ (d : Certificate). d.kind) c.certificate.view_is))
-    (c.new-ring.ensures.ring ∙ c.in-Ok.ensures.ok.field)
-    (c.as_slice-names.ensures ∙ ap (λ (s : System). s.space) c.system.view_is ∙ ap (λ (d : Certificate). d.system.space) c.certificate.view_is)
-    (c.as_slice.ensures ∙ c.in-Ok.ensures.ok.fractions)
+    c.in-Ok.ensures.ok.field
+    (c.in_ok-names.ensures ∙ c.as_slice.ensures ∙ ap (λ (s : System). s.space) c.system.view_is ∙ ap (λ (d : Certificate). d.system.space) c.certificate.view_is)
+    (c.as_slice-2.ensures ∙ c.in-Ok.ensures.ok.fractions)
     c.new-out.ensures.items c.in_ok-extend_from_slice.ensures.items c.in_ok-write_lines.ensures c.in_ok-extend_from_slice-2.ensures.items
