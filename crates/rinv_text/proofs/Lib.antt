@@ -2,7 +2,7 @@ pub mod NamesInTurn
 mod Keys
 mod Absent
 mod MadeNames
-mod WordsInTurn
+pub mod WordsInTurn
 pub mod Joined
 mod TermsInTurn
 mod Descending
