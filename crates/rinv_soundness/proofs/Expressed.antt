@@ -171,23 +171,28 @@ expressed p c f some = with_expression (choose expressions (is_denoted p c f) (�
 
 -- ---- soundness
 
+more : (k : Kind) → k ≡ full → ¬ (k ≡ invariance)
+more k e i = differs (sym e ∙ i)
+  where
+    is_full : Kind → Bool
+    is_full full = true
+    is_full k = false
+
+    differs : full ≡ invariance → ⊥
+    differs e = true≢false (ap is_full e)
+
+-- its laws hold
+pub full_laws : (c : Certificate) → c.kind ≡ full → IsAccepted c → AllLawsHold c.system
+full_laws c kind accepted = accepted-laws_hold c accepted (more c.kind kind)
+
 -- an accepted certificate of kind `full` is sound
 pub accepted_sound : (c : Certificate) → c.kind ≡ full → IsAccepted c → IsSound c.system c.fractions
 accepted_sound c kind accepted = record {
-  laws = hold;
+  laws = full_laws c kind accepted;
   invariant = accepted-is_invariant c accepted;
-  generates = λ f is. expressed c.system.p c.fractions f (expression_exists c (full_parts c kind accepted) hold (accepted-is_invariant c accepted) f is);
+  generates = λ f is. expressed c.system.p c.fractions f (expression_exists c (full_parts c kind accepted) (full_laws c kind accepted) (accepted-is_invariant c accepted) f is);
 }
-  where
-    more : (k : Kind) → k ≡ full → ¬ (k ≡ invariance)
-    more k e i = differs (sym e ∙ i)
-      where
-        is_full : Kind → Bool
-        is_full full = true
-        is_full k = false
 
-        differs : full ≡ invariance → ⊥
-        differs e = true≢false (ap is_full e)
-
-    hold : AllLawsHold c.system
-    hold = accepted-laws_hold c accepted (more c.kind kind)
+-- its relations rewrite
+pub full_rewriting : (c : Certificate) (kind : c.kind ≡ full) (accepted : IsAccepted c) → IsRewriting c.system (generators c.system (full_parts c kind accepted).form) c.fractions (symbol_relations c)
+full_rewriting c kind accepted = certificate_rewriting c (full_parts c kind accepted) (accepted-is_invariant c accepted)
