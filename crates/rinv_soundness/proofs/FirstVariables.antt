@@ -94,6 +94,11 @@ module _ {K P : Type 0} {𝓚 : CRing K} (𝓣 : TermRing 𝓚 monomials P) wher
   pub more_variables : (v w : ℕ) → v ≤ w → {x : P} → Of 𝓣 (IsFront v) x → Of 𝓣 (IsFront w) x
   more_variables v w h = of-weaken 𝓣 (front_more v w h)
 
+  -- the monomials become their parts in the first v variables
+  pub retract-of : (v : ℕ) {Q Q' : Monomial → Type 0} → ((m : Monomial) → Q m → Q' (front v m)) → {x : P} → Of 𝓣 Q x → Of 𝓣 Q' ((retract v).at x)
+  retract-of v {Q' = Q'} w Of.none = subst (Of 𝓣 Q') (sym (hom-zero (retract v))) Of.none
+  retract-of v {Q' = Q'} w (Of.more {f = x} c m q r) = subst (Of 𝓣 Q') (ap (λ y. 𝓣.ring.add y ((retract v).at x)) (sym (relabel-term 𝓣 𝓣 (front v) (front-mul v) c m)) ∙ sym ((retract v).add _ _)) (Of.more c (front v m) (w m q) (retract-of v w r))
+
   retract-constant : (v : ℕ) (c : K) → (retract v).at (𝓣.term c monomials.one) ≡ 𝓣.term c monomials.one
   retract-constant v c = relabel-term 𝓣 𝓣 (front v) (front-mul v) c monomials.one ∙ ap (𝓣.term c) (monoid_map-one monomials monomials (front v) (front-mul v))
 

@@ -23,3 +23,4 @@ pub mod LowestOfBasis
 pub mod Searching
 pub mod CertificateRewriting
 pub mod DividingRelations
+pub mod Expressed

@@ -28,7 +28,7 @@ use Rattle.rinv_soundness.proofs.SymbolValues.{value_hom, values, values-coeffic
 use Rattle.rinv_soundness.proofs.SpatialValues.{InSpace, Any, spatial, relations-multiple}
 
 -- a change of the coefficients keeps the monomials
-change-of : {K L M P R : Type 0} {𝓚 : CRing K} {𝓛 : CRing L} {𝓜 : Monoid M} (𝓣 : TermRing 𝓚 𝓜 P) (𝓡 : TermRing 𝓛 𝓜 R) (φ : Hom 𝓚 𝓛) {Q : M → Type 0} {f : P} → Of 𝓣 Q f → Of 𝓡 Q ((change 𝓣 𝓡 φ).at f)
+pub change-of : {K L M P R : Type 0} {𝓚 : CRing K} {𝓛 : CRing L} {𝓜 : Monoid M} (𝓣 : TermRing 𝓚 𝓜 P) (𝓡 : TermRing 𝓛 𝓜 R) (φ : Hom 𝓚 𝓛) {Q : M → Type 0} {f : P} → Of 𝓣 Q f → Of 𝓡 Q ((change 𝓣 𝓡 φ).at f)
 change-of 𝓣 𝓡 φ {Q} Of.none = subst (Of 𝓡 Q) (sym (hom-zero (change 𝓣 𝓡 φ))) Of.none
 change-of 𝓣 𝓡 φ {Q} (Of.more {f = f} c n q r) = subst (Of 𝓡 Q) (ap (λ x. 𝓡.ring.add x ((change 𝓣 𝓡 φ).at f)) (sym (change-term 𝓣 𝓡 φ c n)) ∙ sym ((change 𝓣 𝓡 φ).add _ _)) (Of.more (φ.at c) n q (change-of 𝓣 𝓡 φ r))
 

@@ -119,16 +119,20 @@ module _ (s : System) where
   -- ---- rests
 
   module _ (fs : List Poly) (c : List Fraction) (qs : List SymbolRelation) (w : IsRewriting fs c qs) where
-    nothing_in : InIdeal s fs (poly_ring (ops s) (laws s)).zero
+    -- zero lies in the ideal
+    pub nothing_in : InIdeal s fs (poly_ring (ops s) (laws s)).zero
     nothing_in = ∣ subst (In (poly_ring (ops s) (laws s)) (generator (ops s) (laws s) fs)) (sym (hom-zero (move (ops s) (laws s) (group_count s)))) In.none ∣₁
 
-    in_space : (k : ℕ) → k < length c → InSpace (ops s) (laws s) (field s) (space_count s) (get_or c k (rational_ops s.p).one)
+    -- the fractions are in the space's variables
+    pub in_space : (k : ℕ) → k < length c → InSpace (ops s) (laws s) (field s) (space_count s) (get_or c k (rational_ops s.p).one)
     in_space k h = fraction_in (get_or c k (rational_ops s.p).one) (w.fractions k (rational_ops s.p).one h)
 
-    abbrev G : ℕ → Class (poly_ops (poly_ops (residue_ops s.p)))
+    -- the relations with symbols
+    abbrev pub G : ℕ → Class (poly_ops (poly_ops (residue_ops s.p)))
     G k = generator (poly_ops (ops s)) (poly_laws (ops s) (laws s)) (map (symbol_poly s.p) qs) k
 
-    relation_at : (k : ℕ) → Extended s fs (val c (G k))
+    -- the relations are in the extended ideal, in value
+    pub relation_at : (k : ℕ) → Extended s fs (val c (G k))
     relation_at k = go (low_or_high k (length qs))
       where
         go : (k < length qs) ⊎ (length qs ≤ k) → Extended s fs (val c (G k))
@@ -138,7 +142,8 @@ module _ (s : System) where
             subst (Extended s fs) (sym (ap (val c) (generator_past (poly_ops (ops s)) (poly_laws (ops s) (laws s)) (map (symbol_poly s.p) qs) k past) ∙ hom-zero (values (ops s) (laws s) (field s) c)))
             (nothing-multiple (ops s) (laws s) (field s) (space_count s) c in_space nothing_in)
 
-    abbrev Rest : Class (poly_ops (poly_ops (residue_ops s.p))) → Class (poly_ops (poly_ops (residue_ops s.p))) → Type 0
+    -- r is a rest of f
+    abbrev pub Rest : Class (poly_ops (poly_ops (residue_ops s.p))) → Class (poly_ops (poly_ops (residue_ops s.p))) → Type 0
     Rest f r = ratios.IsRest (ops s) (laws s) (field s) (space_count s) nothing_in (ideal-add s fs) (ideal-mul s fs) c in_space G relation_at (IsReducibleBy (map (λ q. q.lead) qs)) w.lowest f r
 
     is_rest : (f : Poly) (r : SymbolPoly) → IsRestBy s qs (in_z s.p f) r → Rest ((to_z (ops s) (laws s) (field s)).at (class (poly_ops (ops s)) f)) (symbols r)
