@@ -7,6 +7,8 @@ mod fraction;
 mod names;
 mod polynomial;
 mod terms;
+#[cfg(test)]
+mod tests;
 
 pub use fault::{TextCode, TextFault, TextStop};
 pub use form::has_name_form;
