@@ -16,7 +16,7 @@ use Rattle.rinv_poly.proofs.NormalFacts.{has-term}
 
 module _ {E : Type 0} (o : RingOps E) (l : RingLaws o) where
   -- a term with this monomial, or there is none
-  searched : (m : List ℕ) (g : Polynomial E) → ((k : ℕ) × (k < length g) × ((d : Term E) → same_monomial (get_or g k d).0 m ≡ true)) ⊎ IsAbsent m g
+  pub searched : (m : List ℕ) (g : Polynomial E) → ((k : ℕ) × (k < length g) × ((d : Term E) → same_monomial (get_or g k d).0 m ≡ true)) ⊎ IsAbsent m g
   searched m [] = inr tt
   searched m (t ∷ g) = elim (cases_Bool (same_monomial t.0 m)) [
     | inl here ↦ inl (0, omega arith, λ d. here)

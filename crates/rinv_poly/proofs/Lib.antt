@@ -16,3 +16,4 @@ pub mod Merging
 pub mod Scaling
 pub mod Past
 pub mod Residues
+pub mod Greatest

@@ -91,6 +91,11 @@ module _ {E : Type 0} (o : RingOps E) (l : RingLaws o) (is_element : E → Bool)
   unfolding same
   zero-nil = refl
 
+  -- a polynomial that is not zero has a term
+  pub some-term : (f : Polynomial E) → is_zero o f ≡ false → 0 < length f
+  some-term [] n = absurd (true≢false (sym zero-nil ∙ n))
+  some-term (t ∷ f) n = omega arith
+
   -- the monomials are those of the terms
   pub monomials-ordered : (f : Polynomial E) → IsOrdered o is_element v f → monomials o f ≡ map (λ t. t.0) f
   monomials-ordered f n = kept f (λ k d b. has-term f n (get_or f k d) (Contains-get_or f k d b))

@@ -4,6 +4,7 @@
 mod collect;
 mod compare;
 pub mod laws;
+mod leads;
 mod limit;
 mod merge;
 mod polynomial;
