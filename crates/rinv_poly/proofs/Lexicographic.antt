@@ -1,11 +1,12 @@
 -- The lexicographic order of exponents.
-use Rattle.std.proofs.Common.{◌≡◌, ℕ, true, false, ◌⊎◌, inl, inr, List, [], ◌∷◌, refl, sym, ◌∙◌, arith}
+use Rattle.std.proofs.Common.{◌≡◌, ℕ, length, true, false, ◌⊎◌, inl, inr, List, [], ◌∷◌, refl, sym, ap, ◌∙◌, arith, true≢false}
 use Rattle.std.proofs.lemmas.Bool.{cases_order}
 use Rattle.std.proofs.lemmas.Bool.Decides.{nat_tests}
 use Rattle.std.proofs.lemmas.Cmp.{nat_list_cmp_total, tied_itself}
 use Rattle.std.specs.Ordering.{is_lt, is_eq, is_gt, ordering_reverse}
 use Rattle.std.specs.declared.cmp.Ordering.{Ordering}
 use Rattle.std.specs.declared.cmp.Ordering.TheVariants.{Less, Equal, Greater}
+use Rattle.rinv_algebra.specs.Monomial.{monomial_product}
 use Rattle.rinv_algebra.specs.Order.{lex}
 
 -- the order of two monomials, from either side
@@ -41,6 +42,15 @@ lex_below u t m f e = elim (at_most (lex u t) (rw (← lex_back t u) f)) [
 pub lex_trans : (a b c : List ℕ) → lex a b ≡ Less → lex b c ≡ Less → lex a c ≡ Less
 lex_trans a b c e f = nat_list_cmp_total.trans a b c e f
 
+-- what is below m is below what is not
+pub lex_above : (t s m : List ℕ) → is_lt (lex s m) ≡ false → lex t m ≡ Less → lex t s ≡ Less
+lex_above t s m off e = go (lex t s) refl
+  where
+    go : (p : Ordering) → lex t s ≡ p → lex t s ≡ Less
+    go Less h = h
+    go Equal h = absurd (true≢false (sym (ap is_lt (sym (nat_list_cmp_total.congr t s m h) ∙ e)) ∙ off))
+    go Greater h = absurd (true≢false (sym (ap is_lt (nat_list_cmp_total.trans s t m (lex_back s t ∙ ap ordering_reverse h) e)) ∙ off))
+
 reverse_of : (p : Ordering) → is_gt p ≡ true → ordering_reverse p ≡ Less
 reverse_of Less e = cc
 reverse_of Equal e = cc
@@ -66,4 +76,16 @@ lex_equal (x ∷ a) [] e = cc
 lex_equal (x ∷ a) (y ∷ b) e = elim (cases_order x y) [
   | inl same ↦ let rest : is_eq (lex a b) ≡ true = grind (arith, nat_tests) in cc (same, lex_equal a b rest)
   | inr apart ↦ absurd (elim apart [ inl low ↦ grind (arith, nat_tests) | inr high ↦ grind (arith, nat_tests) ])
+]
+
+-- a factor is kept out of the comparison of lists that are equally long
+pub lex-product : (m a b : List ℕ) → length a ≡ length b → lex (monomial_product m a) (monomial_product m b) ≡ lex a b
+unfolding monomial_product
+lex-product [] a b e = refl
+lex-product (x ∷ m) [] [] e = lex_itself (x ∷ m)
+lex-product (x ∷ m) [] (z ∷ b) e = absurd (omega (arith, e))
+lex-product (x ∷ m) (y ∷ a) [] e = absurd (omega (arith, e))
+lex-product (x ∷ m) (y ∷ a) (z ∷ b) e = let rest = lex-product m a b (omega (arith, e)) in elim (cases_order y z) [
+  | inl same ↦ grind (arith, nat_tests, rest, same)
+  | inr apart ↦ elim apart [ inl low ↦ grind (arith, nat_tests, rest, low) | inr high ↦ grind (arith, nat_tests, rest, high) ]
 ]

@@ -42,3 +42,17 @@ pub record IsPushed {E : Type 0} (o : RingOps E) (is_element : E → Bool) (f g 
   pub element : IsTrue (is_element coefficient)
   pub value : IsSame o coefficient c
   pub items : g ≡ with_term o f (m, coefficient)
+
+-- the last term of f is gone from f', and is the last of g'
+pub record IsMoved {E : Type 0} (f f' g g' : Polynomial E) : Type 0 where
+  pub term : Term E
+  pub taken : f ≡ f' ++ term ∷ []
+  pub put : g' ≡ g ++ term ∷ []
+
+-- the last terms of f and g are gone from f' and g', and h' has their sum, unless that is zero
+pub record IsJoined {E : Type 0} (o : RingOps E) (is_element : E → Bool) (f f' g g' h h' : Polynomial E) : Type 0 where
+  pub left : Term E
+  pub right : Term E
+  pub taken_left : f ≡ f' ++ left ∷ []
+  pub taken_right : g ≡ g' ++ right ∷ []
+  pub put : IsPushed o is_element h h' left.0 (o.add left.1 right.1)

@@ -1,8 +1,10 @@
 //! Polynomials over any ring.
 #![tactic(auto)]
 
+mod cancellation;
 mod collect;
 mod compare;
+mod division;
 pub mod laws;
 mod leads;
 mod limit;

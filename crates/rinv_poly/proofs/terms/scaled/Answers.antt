@@ -1,3 +1,4 @@
+use Rattle.std.proofs.Common.{[]}
 use Rattle.rinv_poly.proofs.Forms.{ordered-from_normal, normal-from_ordered}
 use Rattle.rinv_poly.proofs.Scaling.{scaling-start, scaled-more}
 use Rattle.rinv_poly.proofs.terms.scaled.Goals as goal
@@ -6,7 +7,7 @@ pub loop-mono-init : goal.loop-mono-init
 loop-mono-init g c =
     let o = g.R.Ring.ops c.args.coeffs.now in
     let element = g.R.Ring.is_element c.args.coeffs.now in
-    rw c.in_ok-out.ensures.items (scaling-start o (g.R.Ring.laws c.args.coeffs.now) element c.args.vars c.args.c.now c.args.terms.now (ordered-from_normal o element c.args.vars c.args.terms.now c.requires.terms))
+    rw c.in_ok-out.ensures.items (scaling-start o (g.R.Ring.laws c.args.coeffs.now) element c.args.vars ([], c.args.c.now) c.args.terms.now (ordered-from_normal o element c.args.vars c.args.terms.now c.requires.terms))
 
 pub loop-mono-preserved : goal.loop-mono-preserved
 loop-mono-preserved g c =
