@@ -90,7 +90,7 @@ module _ {E : Type 0} (o : RingOps E) (is_element : E → Bool) (v : ℕ) where
   whole : (a b c d : Bool) → a ≡ true → b ≡ true → c ≡ true → d ≡ true → (a && b && c && d) ≡ true
   whole a b c d e f g h = cc
 
-  term-from_test : (t : Term E) → is_normal_term o is_element v t ≡ true → IsNormalTerm t
+  pub term-from_test : (t : Term E) → is_normal_term o is_element v t ≡ true → IsNormalTerm t
   term-from_test t e =
       let p = parts (is_element t.1) (not (o.same t.1 o.zero)) (length t.0 == v) (nat_le (total_degree t.0) max_degree) e in
       record { coefficient = p.0; nonzero = negated (o.same t.1 o.zero) p.1; vars = eqb-true (length t.0) v p.2; low = leb-true (total_degree t.0) max_degree p.3 }

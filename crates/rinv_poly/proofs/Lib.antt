@@ -17,6 +17,7 @@ pub mod Scaling
 pub mod Moving
 pub mod Cancelling
 pub mod Heights
+pub mod DistinctTerms
 pub mod Dividing
 pub mod Past
 pub mod Residues

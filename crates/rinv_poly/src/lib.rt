@@ -4,6 +4,7 @@
 mod cancellation;
 mod collect;
 mod compare;
+mod distinct;
 mod division;
 pub mod laws;
 mod leads;
