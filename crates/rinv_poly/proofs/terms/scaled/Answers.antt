@@ -12,7 +12,7 @@ loop-mono-init g c =
 pub loop-mono-preserved : goal.loop-mono-preserved
 loop-mono-preserved g c =
     let o = g.R.Ring.ops c.args.coeffs.now in
-    scaled-more o (g.R.Ring.laws c.args.coeffs.now) (g.R.Ring.is_element c.args.coeffs.now) c.args.vars c.args.c.now c.args.terms.now c.loop-mono.out.items c.push_multiple.new.out.items c.loop-mono.mono-index c.loop-mono-item.result c.loop-mono-test.true c.loop-mono-item.is c.loop-mono.invariant c.in_ok-push_multiple.ensures.value
+    scaled-more o (g.R.Ring.laws c.args.coeffs.now) (g.R.Ring.is_element c.args.coeffs.now) c.args.vars c.args.c.now c.args.terms.now c.loop-mono.out.items c.push_multiple.new.out.items c.loop-mono.mono-index c.loop-mono-item.result c.loop-mono-test.true c.loop-mono-item.is c.loop-mono.invariant (rw c.in_ok-copy.ensures at c.in_ok-push_multiple.ensures.value)
 
 pub returns-clause-normal : goal.returns-clause-normal
 returns-clause-normal g c = normal-from_ordered (g.R.Ring.ops c.args.coeffs.now) (g.R.Ring.is_element c.args.coeffs.now) c.args.vars c.loop-mono.out.items c.loop-mono.invariant.done
