@@ -8,7 +8,7 @@ use Rattle.std.proofs.lemmas.List.Sorted.{ranks_by, sorted_far, All-permutation,
 use Rattle.std.proofs.lemmas.Map.Keys.{IsDistinct-IsPermutation, apart_from_distinct}
 use Rattle.std.specs.Ordering.{is_lt, is_eq}
 use Rattle.std.specs.List.Sorted.{IsPermutation, IsSortedBy}
-use Rattle.rinv_algebra.specs.Ring.{RingOps}
+use Rattle.rinv_algebra.specs.Ring.{RingOps, RingLaws}
 use Rattle.rinv_algebra.specs.Monomial.{same_monomial}
 use Rattle.rinv_algebra.specs.Order.{lex}
 use Rattle.rinv_algebra.specs.Polynomial.{Term, Polynomial}
@@ -17,7 +17,8 @@ use Rattle.rinv_algebra.proofs.MonomialLaws.{same_monomial_refl, same_monomial_s
 use Rattle.rinv_algebra.proofs.Degrees.{iff-equal}
 use Rattle.rinv_poly.specs.Terms.{AreDistinct}
 use Rattle.rinv_poly.proofs.Lexicographic.{lex_turned, lex_equal, lex_less}
-use Rattle.rinv_poly.proofs.Forms.{IsDescending, IsNormalTerm, term-from_test, normal-from_ordered}
+use Rattle.rinv_poly.proofs.NormalFacts.{apart}
+use Rattle.rinv_poly.proofs.Forms.{IsDescending, IsOrdered, IsNormalTerm, term-from_test, normal-from_ordered}
 
 module _ {E : Type 0} where
   pub distinct-permuted : (f g : Polynomial E) → IsPermutation f g → AreDistinct f → AreDistinct g
@@ -48,3 +49,10 @@ module _ {E : Type 0} where
         terms = All-permutation (IsNormalTerm o is_element v) f g p (All-weaker (λ t. IsTrue (is_normal_term o is_element v t)) (IsNormalTerm o is_element v) (term-from_test o is_element v) f all);
         descending = descending-from_sorted g (distinct-permuted f g p h) up;
       })
+
+-- a polynomial in normal form has distinct monomials
+pub distinct-ordered : {E : Type 0} (o : RingOps E) (l : RingLaws o) (is_element : E → Bool) (v : ℕ) (f : Polynomial E) → IsOrdered o is_element v f → (i j : ℕ) (d : Term E) → i < j → j < length f → same_monomial (get_or f i d).0 (get_or f j d).0 ≡ false
+distinct-ordered o l is_element v f n i j d low high =
+    let a = (get_or f i d).0 in
+    let b = (get_or f j d).0 in
+    iff-equal (same_monomial a b) (same_monomial b a) (same_monomial_sym a b) (same_monomial_sym b a) ∙ apart o l is_element v b a (n.terms j d high).vars (n.terms i d (omega (arith, low, high))).vars (n.descending i j d low high)
