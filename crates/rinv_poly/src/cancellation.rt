@@ -133,10 +133,7 @@ fn compare_last<E>(a: &Vec<(Mono, E)>, b: &Vec<(Mono, E)>) -> Ordering
 }
 
 // Moves the last term behind others.
-fn move_last<E: Drop>(
-    from: &mut Vec<(Mono, E)>,
-    to: &mut Vec<(Mono, E)>,
-) -> Result<(), NoMemory>
+fn move_last<E: Drop>(from: &mut Vec<(Mono, E)>, to: &mut Vec<(Mono, E)>) -> Result<(), NoMemory>
     requires { 0 < length from.old.items }
     ensures { OnOk result (IsMoved from.old.items from.new.items to.old.items to.new.items) }
 {

@@ -93,12 +93,7 @@ fn quotient_terms<R: Field>(
 
 impl PolyRing<Gf> {
     /// The quotient of `f` by `d`, which is not zero; None exactly where no polynomial times `d` is `f`. No degree is too high for it.
-    pub fn quotient(
-        &self,
-        alloc: Global,
-        f: &KPoly,
-        d: &KPoly,
-    ) -> Result<Option<KPoly>, NoMemory>
+    pub fn quotient(&self, alloc: Global, f: &KPoly, d: &KPoly) -> Result<Option<KPoly>, NoMemory>
         requires dividend { IsNormal (residue_ops self.now.coeffs) (λ c. nat_lt c self.now.coeffs) self.now.vars f.now }
         requires divisor { IsNormal (residue_ops self.now.coeffs) (λ c. nat_lt c self.now.coeffs) self.now.vars d.now }
         requires nonzero { is_zero (residue_ops self.now.coeffs) d.now ≡ false }

@@ -3,10 +3,8 @@
 --   degree-factors       the degrees of the factors add up to at most the degree of the product
 --   IsHeaded o v t f     the term t is above all terms of f in lexicographic order, in v variables
 --   lead-divides, lead-degree    the first term of a product, against that of a factor and the degree of the other
-use Rattle.std.proofs.Common.{◌≡◌, ◌⊎◌, ℕ, suc, ◌+◌, ◌≤◌, Bool, true, false, not, ◌||◌, ◌&&◌, List, [], ◌∷◌, length, replicate, get_or, All, refl, sym, ap, ap₂, ◌∙◌, subst, subst₂, arith, inl, inr, true≢false, nat_le, IsTrue}
-use Rattle.std.specs.Ordering.{nat_cmp, is_lt, is_eq}
-use Rattle.std.specs.declared.cmp.Ordering.{Ordering}
-use Rattle.std.specs.declared.cmp.Ordering.TheVariants.{Less, Equal, Greater}
+use Rattle.std.proofs.Common.{◌≡◌, ◌⊎◌, ℕ, suc, ◌+◌, ◌≤◌, Bool, true, false, not, List, [], ◌∷◌, length, replicate, get_or, All, refl, sym, ap, ◌∙◌, subst, subst₂, arith, inl, inr, true≢false, nat_le}
+use Rattle.std.specs.declared.cmp.Ordering.TheVariants.{Less}
 use Rattle.std.proofs.lemmas.Bool.{cases_Bool, cases_order, le-leb, leb-true}
 use Rattle.std.proofs.lemmas.Bool.Decides.{nat_tests}
 use Rattle.std.proofs.lemmas.List.Elements.{All-head, All-tail}
@@ -17,18 +15,18 @@ use Rattle.rinv_algebra.specs.Monomial.{same_monomial, monomial_product, divides
 use Rattle.rinv_algebra.specs.Order.{lex, grevlex, block_order, last_cmp}
 use Rattle.rinv_algebra.specs.Polynomial.{Term, Polynomial, coefficient, poly_ops, product, is_zero, has_monomial, degree}
 use Rattle.rinv_algebra.proofs.RingFacts as facts
-use Rattle.rinv_algebra.proofs.MonomialLaws.{get_or-product, same_at, same_monomial_sym}
+use Rattle.rinv_algebra.proofs.MonomialLaws.{get_or-product, same_at}
 use Rattle.rinv_algebra.proofs.PolynomialLaws.{poly_laws}
-use Rattle.rinv_algebra.proofs.Degrees.{total_degree-same, degree-above, degree-bound, degree-same, is_zero-same, is_zero-false}
+use Rattle.rinv_algebra.proofs.Degrees.{total_degree-same, degree-above, degree-bound, degree-same, is_zero-false}
 use Rattle.rinv_algebra.proofs.BlockOrder.{sum-product, block_order_laws}
 use Rattle.rinv_algebra.proofs.Grevlex.{grevlex_laws}
 use Rattle.rinv_theory.proofs.CRing.{CRing, zero_mul, add_mul}
 use Rattle.rinv_theory.proofs.Classes.{Class, class, class_ring, class_sound, class_exact, class_dec, class-mul, class-zero}
-use Rattle.rinv_theory.proofs.Monoid.{Monoid, Monomial, monomial, monomials, monomial_ind, monomial_sound, monomial_exact, monomial-mul}
+use Rattle.rinv_theory.proofs.Monoid.{Monoid, Monomial, monomial, monomial_ind, monomial_exact, monomial-mul}
 use Rattle.rinv_theory.proofs.TermRing.{TermRing}
 use Rattle.rinv_theory.proofs.Polynomials.{polynomials, poly_ring, class-coefficient, class-cons}
 use Rattle.rinv_theory.proofs.Of.{Of, of_any, of-add, of-times, of-weaken, of-coefficient}
-use Rattle.rinv_theory.proofs.Leads.{MonomialOrder, IsUpTo, below-ne, below-asym, below-upto, upto-below, mul-upto, upto-from, Leads, lead-of, lead-greatest, lead-unique, zero_or_lead}
+use Rattle.rinv_theory.proofs.Leads.{MonomialOrder, IsUpTo, below-ne, below-upto, upto-below, mul-upto, upto-from, Leads, lead-of, lead-greatest, lead-unique, zero_or_lead}
 use Rattle.rinv_theory.proofs.ListOrders.{ListOrder, order_of, less-below, below-less}
 use Rattle.rinv_theory.proofs.WellOrders.{extended, extended_order, extended-less}
 use Rattle.rinv_theory.proofs.Domain.{IsDomain, top-coefficient}

@@ -1,9 +1,7 @@
-use Rattle.std.proofs.Common.{◌≡◌, ◌∙◌, ◌++◌, [], sym, ap, refl, arith, reverse, length}
-use Rattle.std.proofs.lemmas.List.{nil_from_length, reverse-reverse}
-use Rattle.std.specs.declared.cmp.Ordering.TheVariants.{Less, Equal, Greater}
+use Rattle.std.proofs.Common.{◌≡◌, ◌∙◌, ◌++◌, sym, ap, arith, reverse, length}
+use Rattle.std.proofs.lemmas.List.{reverse-reverse}
 use Rattle.rinv_algebra.specs.Polynomial.{Polynomial}
 use Rattle.rinv_poly.specs.declared.merge.Sign.TheVariants.{Plus}
-use Rattle.rinv_poly.specs.Terms.{next_order}
 use Rattle.rinv_poly.proofs.Forms.{ordered-from_normal}
 use Rattle.rinv_poly.proofs.Merging.{merging-start}
 use Rattle.rinv_poly.proofs.Moving.{next_order-last, plain-reverse, moved-left, moved-right, moved-both, merged-end}

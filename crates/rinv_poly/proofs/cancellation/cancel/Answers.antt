@@ -1,7 +1,6 @@
 use Rattle.std.proofs.Common.{reverse}
-use Rattle.std.proofs.lemmas.Result.{IfOk-weaker}
 use Rattle.rinv_algebra.specs.Ring.{IsSame}
-use Rattle.rinv_algebra.specs.Polynomial.{Polynomial, poly_ops, term_product}
+use Rattle.rinv_algebra.specs.Polynomial.{poly_ops, term_product}
 use Rattle.rinv_poly.proofs.Cancelling.{cancelled-value}
 use Rattle.rinv_poly.proofs.Meets.{at_some}
 use Rattle.rinv_poly.proofs.cancellation.cancel.Goals as goal

@@ -1,4 +1,4 @@
-use Rattle.std.proofs.Common.{rules, ℕ, List, ◌<◌, subst, ◌≡◌, ◌∙◌, ◌∷◌, [], reverse, sym, ap, length, true, arith}
+use Rattle.std.proofs.Common.{rules, ℕ, List, ◌<◌, subst, ◌≡◌, ◌∙◌, ◌∷◌, reverse, sym, ap, length}
 use Rattle.std.proofs.lemmas.List.{reverse-reverse}
 use Rattle.rinv_algebra.specs.Ring.{IsSame}
 use Rattle.rinv_algebra.specs.Monomial.{monomial_product}
