@@ -4,7 +4,7 @@
 --   full-and             two almost full relations hold at once
 --   full-le              the order of the numbers is almost full
 --   full_acc             an order that an almost full relation contradicts descends only finitely often
-use Rattle.std.proofs.Common.{◌≡◌, ◌⊎◌, ℕ, zero, suc, ◌≤◌, Bool, true, false, ◌&&◌, refl, sym, ap, ap₂, ◌∙◌, arith, subst, inl, inr, true≢false}
+use Rattle.std.proofs.Common.{◌≡◌, ◌⊎◌, ℕ, zero, suc, Bool, true, false, ◌&&◌, refl, sym, arith, subst, inl, inr, true≢false}
 use Rattle.std.specs.Prelude.{◌||◌, nat_le}
 use Rattle.std.proofs.lemmas.Bool.{cases_Bool}
 use Rattle.std.proofs.lemmas.Bool.Decides.{nat_tests}

@@ -1,8 +1,9 @@
 -- Two lists in ascending order with the same elements are equal.
---   Has x xs             x is in the list
+--   Has x xs, split      x is in the list; it is the first element, or a later one
+--   has_at, place_of     the element at a place is in it, and each that is has a place
 --   Ascends Less xs      each element is less than those after it
 --   ascending-equal      where each element of the one is in the other, and the other way round, they are equal
-use Rattle.std.proofs.Common.{◌≡◌, List, [], ◌∷◌, refl, sym, ap₂, subst}
+use Rattle.std.proofs.Common.{◌≡◌, ◌⊎◌, ℕ, zero, suc, ◌<◌, List, [], ◌∷◌, length, get_or, arith, refl, sym, ap₂, subst, inl, inr}
 use mathlib.Core.Logic.{∥∥₁_elim, ∥∥₁_map}
 use mathlib.Core.List as MList
 
@@ -10,6 +11,23 @@ use mathlib.Core.List as MList
 pub data Has {A : Type 0} (x : A) : List A → Type 0 where
   first : {xs : List A} → Has x (x ∷ xs)
   later : {y : A} {xs : List A} → Has x xs → Has x (y ∷ xs)
+
+-- it is the first element, or a later one
+pub split : {A : Type 0} {x y : A} {xs : List A} → Has y (x ∷ xs) → (y ≡ x) ⊎ Has y xs
+split first = inl refl
+split (later h) = inr h
+
+-- the element at a place of a list is in it
+pub has_at : {X : Type 0} (d : X) (xs : List X) (k : ℕ) → k < length xs → Has (get_or xs k d) xs
+has_at d [] k h = absurd (omega arith)
+has_at d (x ∷ xs) zero h = Has.first
+has_at d (x ∷ xs) (suc k) h = Has.later (has_at d xs k (omega (arith, h)))
+
+-- an element has a place
+pub place_of : {X : Type 0} (d : X) (xs : List X) {x : X} → Has x xs → (k : ℕ) × (k < length xs) × (get_or xs k d ≡ x)
+place_of d [] h = elim h [ ]
+place_of d (x ∷ xs) Has.first = (0, (omega arith), refl)
+place_of d (x ∷ xs) (Has.later h) = let (k, inside, e) = place_of d xs h in (suc k, (omega (arith, inside)), e)
 
 module _ {A : Type 0} (Less : A → A → Type 0) where
   -- x is less than each element

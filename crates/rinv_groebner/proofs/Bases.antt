@@ -1,9 +1,9 @@
 -- Gröbner bases and reduced Gröbner bases of an ideal, which may be any property of polynomials that differences keep.
 --   IsBasis Mem lm g     the elements g i, with the greatest monomials lm i, are a Gröbner basis of Mem
 --   IsReduced Mem lm g   a reduced one
---   irreducible-zero     a member none of whose monomials is a multiple of a greatest monomial is zero
+--   normal-unique        congruent polynomials are equal where no monomial of theirs is a multiple of a greatest monomial
 --   reduced-unique       each element of a reduced basis is one of any other
-use Rattle.std.proofs.Common.{◌≡◌, ◌⊎◌, sym, ◌∙◌, ap, subst, inl, inr}
+use Rattle.std.proofs.Common.{◌≡◌, ◌⊎◌, sym, ◌∙◌, ap, ap₂, subst, inl, inr}
 use mathlib.Core.Logic.{∥∥₁_elim, ∥∥₁_map, ∥∥₁_prop}
 use Rattle.rinv_theory.proofs.CRing.{CRing, add_neg, add_cancel}
 use Rattle.rinv_theory.proofs.Monoid.{Monoid}
@@ -29,13 +29,18 @@ module _ {K M P : Type 0} {𝓚 : CRing K} {𝓜 : Monoid M} (𝓣 : TermRing �
     pub irreducible : (i j : I) (s : M) → (𝓣.coefficient (g i) (𝓜.mul s (lm j)) ≡ 𝓚.zero → ⊥) → lm j ≡ lm i
 
   module _ (zero_dec : (c : K) → Dec (c ≡ 𝓚.zero)) where
-    -- a member none of whose monomials is a multiple of a greatest monomial is zero
-    pub irreducible-zero : {I : Type 0} {lm : I → M} {g : I → P} → IsBasis lm g → (f : P) → Mem f → ((i : I) (s : M) → 𝓣.coefficient f (𝓜.mul s (lm i)) ≡ 𝓚.zero) → f ≡ 𝟘
-    irreducible-zero {I} {lm} b f m irreducible = ∥∥₁_elim (zero_or_lead 𝓣 𝓞 zero_dec f) (𝓣.ring.is_set _ _) go
+    -- two polynomials are equal where they are congruent, and no monomial of either is a multiple of a greatest one of a basis
+    pub normal-unique : {I J : Type 0} {lm : I → M} {g : I → P} {lm' : J → M} {h : J → P} → IsBasis lm g → IsBasis lm' h → (x y : P) → Mem (x + - y)
+        → ((i : I) (s : M) → 𝓣.coefficient x (𝓜.mul s (lm i)) ≡ 𝓚.zero) → ((j : J) (s : M) → 𝓣.coefficient y (𝓜.mul s (lm' j)) ≡ 𝓚.zero) → x ≡ y
+    normal-unique b b' x y m normal normal' = ∥∥₁_elim (zero_or_lead 𝓣 𝓞 zero_dec (x + - y)) (𝓣.ring.is_set _ _) go
       where
-        go : (f ≡ 𝟘) ⊎ ((n : M) × Leads 𝓣 𝓞 f n) → f ≡ 𝟘
-        go (inl e) = e
-        go (inr (n, l)) = ∥∥₁_elim (b.covers f m n l) (𝓣.ring.is_set _ _) (λ c. absurd (l.nonzero (ap (𝓣.coefficient f) (sym c.2) ∙ irreducible c.0 c.1)))
+        equal : (n : M) → 𝓣.coefficient x n ≡ 𝓚.zero → 𝓣.coefficient y n ≡ 𝓚.zero → 𝓣.coefficient (x + - y) n ≡ 𝓚.zero
+        equal n e e' = 𝓣.coefficient_add x (- y) n ∙ ap₂ 𝓚.add e (coefficient-neg 𝓣 y n ∙ ap 𝓚.neg e') ∙ add_neg 𝓚 _
+
+        go : (x + - y ≡ 𝟘) ⊎ ((n : M) × Leads 𝓣 𝓞 (x + - y) n) → x ≡ y
+        go (inl e) = add_cancel 𝓣.ring x y (- y) (e ∙ sym (add_neg 𝓣.ring y))
+        go (inr (n, l)) = ∥∥₁_elim (b.covers _ m n l) (𝓣.ring.is_set _ _) (λ c. ∥∥₁_elim (b'.covers _ m n l) (𝓣.ring.is_set _ _) (λ d.
+            absurd (l.nonzero (equal n (ap (𝓣.coefficient x) (sym c.2) ∙ normal c.0 c.1) (ap (𝓣.coefficient y) (sym d.2) ∙ normal' d.0 d.1)))))
 
     module _ (least : (m : M) → 𝓞.below m 𝓜.one → ⊥) (mem_sub : (f g : P) → Mem f → Mem g → Mem (f + - g)) where
       -- a monomial below its own greatest is a multiple of no greatest one

@@ -3,14 +3,13 @@
 --   has_front            a monomial that a sum of terms in v variables has is one in v variables
 --   class_leads          the leading monomial of a formal sum that is not zero is the greatest of its class
 --   lead_same            sums that are the same have one leading monomial
-use Rattle.std.proofs.Common.{◌≡◌, ◌⊎◌, ℕ, ◌≤◌, Bool, true, false, not, List, length, take, refl, sym, ◌∙◌, ap, subst, subst₂, inl, inr, arith, IsTrue, true≢false}
+use Rattle.std.proofs.Common.{◌≡◌, ℕ, ◌≤◌, Bool, true, false, not, List, length, take, refl, sym, ◌∙◌, ap, subst, subst₂, arith, IsTrue, true≢false}
 use Rattle.std.specs.Prelude.{IsFalse}
-use Rattle.std.specs.Ordering.{is_ge, ordering_reverse}
+use Rattle.std.specs.Ordering.{ordering_reverse}
 use Rattle.std.specs.declared.cmp.Ordering.{Ordering}
-use Rattle.std.specs.declared.cmp.Ordering.TheVariants.{Less, Equal, Greater}
+use Rattle.std.specs.declared.cmp.Ordering.TheVariants.{Less}
 use Rattle.std.proofs.lemmas.List.{length-take}
 use Rattle.rinv_algebra.specs.Ring.{RingOps, RingLaws, IsSame}
-use Rattle.rinv_algebra.specs.Monomial.{same_monomial}
 use Rattle.rinv_algebra.specs.Polynomial.{Polynomial, poly_ops, coefficient, has_monomial, is_zero}
 use Rattle.rinv_algebra.specs.Leading.{IsLeadingMonomial, leading_monomial}
 use Rattle.rinv_algebra.proofs.PolynomialLaws.{poly_laws}
@@ -22,7 +21,7 @@ use Rattle.rinv_theory.proofs.Polynomials.{polynomials, class-coefficient}
 use Rattle.rinv_theory.proofs.Of.{Of, of-coefficient}
 use Rattle.rinv_theory.proofs.Places.{front, front-list}
 use Rattle.rinv_theory.proofs.Variables.{IsFront}
-use Rattle.rinv_theory.proofs.Leads.{MonomialOrder, Leads, lead-unique}
+use Rattle.rinv_theory.proofs.Leads.{MonomialOrder, Leads}
 use Rattle.rinv_theory.proofs.WellOrders.{tied}
 use Rattle.rinv_groebner.specs.Orders.{OrdersMonomials}
 use Rattle.rinv_groebner.proofs.FirstVariables.{order_in, order_in-less, below-less_in}
@@ -42,7 +41,8 @@ module _ (cmp : List ℕ → List ℕ → Ordering) (v : ℕ) (order : OrdersMon
   abbrev pub all_monomials : MonomialOrder monomials
   all_monomials = order_in cmp order.laws v
 
-  first_of : (a : List ℕ) → IsFront v (monomial a) → IsOne a (take v a)
+  -- a monomial in the first v variables, written with at most v exponents
+  pub first_of : (a : List ℕ) → IsFront v (monomial a) → IsOne a (take v a)
   first_of a e = monomial_exact a (take v a) (sym e ∙ front-list v a)
 
   short : (a : List ℕ) → length (take v a) ≤ v

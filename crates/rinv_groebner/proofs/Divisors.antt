@@ -1,7 +1,6 @@
 -- Divisors of monomials, in an order in which nothing is below 1.
 --   divisor-upto         a divisor is up to its multiple
 --   divisors-equal       monomials that divide each other are equal
---   divisor-one          a divisor of 1 is 1
 use Rattle.std.proofs.Common.{◌≡◌, ◌⊎◌, sym, ◌∙◌, ap, subst₂, inl, inr}
 use Rattle.rinv_theory.proofs.Monoid.{Monoid}
 use Rattle.rinv_theory.proofs.Leads.{MonomialOrder, IsUpTo, below-asym}
@@ -27,11 +26,3 @@ module _ {M : Type 0} {𝓜 : Monoid M} (𝓞 : MonomialOrder 𝓜) (least : (m 
       go (inr i) h = i
       go (inl h) (inr i) = sym i
       go (inl h) (inl k) = absurd (below-asym 𝓞 m n h k)
-
-  -- a divisor of 1 is 1
-  pub divisor-one : (s m : M) → 𝓜.mul s m ≡ 𝓜.one → m ≡ 𝓜.one
-  divisor-one s m e = go (divisor-upto s m 𝓜.one e)
-    where
-      go : IsUpTo 𝓞 m 𝓜.one → m ≡ 𝓜.one
-      go (inl h) = absurd (least m h)
-      go (inr i) = i

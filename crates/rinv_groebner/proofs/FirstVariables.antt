@@ -18,7 +18,8 @@ use Rattle.rinv_theory.proofs.Monoid.{IsOne, monomials, monomial, same_monomial-
 use Rattle.rinv_theory.proofs.Leads.{MonomialOrder}
 use Rattle.rinv_theory.proofs.ListOrders.{order_of, less-below, below-less}
 use Rattle.rinv_theory.proofs.WellOrders.{IsWellOrder, extended, extended_order, extended_well, extended-less}
-use Rattle.rinv_groebner.proofs.Descent.{EndsIn, monomials-end}
+use Rattle.rinv_groebner.proofs.AlmostFull.{full-pullback, full_acc}
+use Rattle.rinv_groebner.proofs.FullDivisors.{first_full, first-divides}
 
 -- the first v exponents, and zeros where there are fewer
 abbrev pub first_exponents : ℕ → List ℕ → List ℕ
@@ -107,11 +108,12 @@ module _ (cmp : List ℕ → List ℕ → Ordering) (laws : MonoOrderLaws cmp) w
         go Equal e h = absurd (true≢false (sym h ∙ (extended_order cmp_in total_in kept_in).irreflexive a b (one e)))
         go Greater e h = absurd (true≢false (sym h ∙ rw (agrees a b la lb, e) refl))
 
-    accessible : (a : List ℕ) → Acc (λ a b. (length a ≡ v) × (cmp a b ≡ Less)) a → (b : List ℕ) → first_exponents v b ≡ a → Acc (λ a b. cmp_in a b ≡ Less) b
-    accessible a (Acc.intro x h) b e = Acc.intro b (λ c p. accessible (first_exponents v c) (h (first_exponents v c) (length-first_exponents v c, sym (ap (cmp (first_exponents v c)) e) ∙ p)) c refl)
-
-    ends : EndsIn (λ a b. cmp a b ≡ Less) laws.total.trans (λ a. length a ≡ v)
-    ends = monomials-end v (λ a b. cmp a b ≡ Less) laws.total.trans (λ a b la lb. respects a b (la ∙ sym lb))
+    accessible : (a : List ℕ) → Acc (λ a b. cmp_in a b ≡ Less) a
+    accessible = full_acc (λ a b. cmp_in a b ≡ Less) total_in.trans (full-pullback (first_exponents v) (first_full v)) (λ a b e d.
+        respects (first_exponents v a) (first_exponents v b) (length-first_exponents v a ∙ sym (length-first_exponents v b)) (first-divides v (first_exponents v a) (first_exponents v b) (low (length-first_exponents v a)) d) e)
+      where
+        low : {n : ℕ} → n ≡ v → n ≤ v
+        low e = omega (arith, e)
 
     least_in : (a : List ℕ) → ¬ (cmp_in a [] ≡ Less)
     least_in a e = laws.least (take v a) (sym (laws.kept (take v a) [] (replicate v 0)) ∙ ap (λ (x : List ℕ). cmp (first_exponents v a) (monomial_product x (replicate v 0))) (sym (take_all v [] (omega arith))) ∙ e)
@@ -119,4 +121,4 @@ module _ (cmp : List ℕ → List ℕ → Ordering) (laws : MonoOrderLaws cmp) w
     -- nothing is below 1, and the monomials descend only finitely often
     pub order_in-well : IsWellOrder order_in
     unfolding order_in
-    order_in-well = extended_well cmp_in total_in kept_in (least_in) (record { apply = λ a. accessible (first_exponents v a) (ends (first_exponents v a) (length-first_exponents v a)) a refl })
+    order_in-well = extended_well cmp_in total_in kept_in (least_in) (record { apply = accessible })

@@ -3,34 +3,23 @@
 --   s_polynomial-of      its monomials are below the least common multiple of the leading monomials
 --   quotients-good, coprime-good, chain-good    when a pair is good
 --   place_equal          two places with one number are equal
-use Rattle.std.proofs.Common.{◌≡◌, ◌⊎◌, ℕ, Bool, true, false, not, List, [], ◌∷◌, get_or, max, refl, sym, ◌∙◌, ap, ap₂, subst, inl, inr, arith, IsTrue, true≢false}
-use Rattle.std.specs.Prelude.{IsFalse}
-use Rattle.std.specs.declared.cmp.Ordering.{Ordering}
+use Rattle.std.proofs.Common.{◌≡◌, ℕ, Bool, true, false, not, List, [], ◌∷◌, refl, sym, ◌∙◌, ap₂, subst, arith, true≢false}
 use mathlib.Core.Bool.{Bool-set}
 use mathlib.Core.HLevel.{Σ_prop_path}
-use Rattle.rinv_algebra.specs.Ring.{RingOps, RingLaws, FieldLaws, IsSame}
-use Rattle.rinv_algebra.specs.Monomial.{divides, quotient, lcm, coprime}
-use Rattle.rinv_algebra.specs.Polynomial.{Polynomial, poly_ops, is_zero, term_product}
-use Rattle.rinv_algebra.specs.Leading.{leading_monomial, leading_coefficient, multiplier, s_polynomial}
+use Rattle.rinv_algebra.specs.Ring.{RingOps}
+use Rattle.rinv_algebra.specs.Monomial.{lcm}
+use Rattle.rinv_algebra.specs.Polynomial.{Polynomial}
 use Rattle.rinv_algebra.proofs.MonomialLaws.{same_from}
-use Rattle.rinv_algebra.proofs.PolynomialLaws.{poly_laws}
 use Rattle.rinv_theory.proofs.CRing.{CRing, by}
 use Rattle.rinv_theory.proofs.Solver.{ring, reading}
-use Rattle.rinv_theory.proofs.Classes.{Class, class, class_ring}
-use Rattle.rinv_theory.proofs.Monoid.{Monoid, Monomial, monomial, monomials, monomial_sound}
+use Rattle.rinv_theory.proofs.Monoid.{Monoid, monomial, monomial_sound}
 use Rattle.rinv_theory.proofs.TermRing.{TermRing, term-neg}
-use Rattle.rinv_theory.proofs.Polynomials.{polynomials, poly_ring, term_at}
-use Rattle.rinv_theory.proofs.Of.{Of, of-add, of-times, of-coefficient, of_where}
-use Rattle.rinv_theory.proofs.Places.{front, front-mul}
-use Rattle.rinv_theory.proofs.Variables.{IsFront}
-use Rattle.rinv_theory.proofs.Leads.{MonomialOrder, IsUpTo, is_upto, upto-from, above-from, below-upto, upto-below, Leads}
-use Rattle.rinv_groebner.specs.Orders.{OrdersMonomials}
-use Rattle.rinv_groebner.proofs.Elements.{Elements, IsBelow}
-use Rattle.rinv_groebner.proofs.Pairs.{cancelling, IsGood, good_quotients, good_chain, good_coprime}
-use Rattle.rinv_groebner.proofs.MonomialLists.{Divisor, lcm-at, lcm_left, lcm_right, lcm_least, quotient_divisor, divides-divisor, divisor_trans, coprime_multiples}
-use Rattle.rinv_groebner.proofs.Compared.{all_monomials, InFirst, nonzero-front, class_leads}
-use Rattle.rinv_groebner.proofs.ListElements.{AllFirst, Place, list_elements}
-use Rattle.rinv_groebner.proofs.StepClasses.{negated, class-term_product, class-difference}
+use Rattle.rinv_theory.proofs.Of.{Of, of-add, of-times}
+use Rattle.rinv_theory.proofs.Leads.{MonomialOrder, is_upto, upto-from, above-from, below-upto}
+use Rattle.rinv_groebner.proofs.Elements.{Elements}
+use Rattle.rinv_groebner.proofs.Pairs.{cancelling}
+use Rattle.rinv_groebner.proofs.MonomialLists.{lcm-at}
+use Rattle.rinv_groebner.proofs.ListElements.{Place}
 
 -- two places with one number are equal
 pub place_equal : {E : Type 0} (o : RingOps E) (hs : List (Polynomial E)) (x y : Place o hs) → x.0 ≡ y.0 → x ≡ y

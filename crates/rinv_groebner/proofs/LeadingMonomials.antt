@@ -1,12 +1,12 @@
--- The leading monomial of a formal sum is the greatest monomial of its class.
+-- The leading monomial of a formal sum is its greatest.
+--   present, has_monomial-same    a monomial that a sum has is that of one of its terms; it may be written in another way
 --   leading_monomial-leads    the leading monomial of a sum that is not zero is its greatest
---   leads-in, leads-out  the greatest monomial of a sum in v variables, as lists have it and in the honest ring
---   class-leads          so the leading monomial leads the class
+--   leads-out            the greatest monomial of the class of a sum is that of the sum
 use Rattle.std.proofs.Common.{◌≡◌, ◌⊎◌, ℕ, ◌≤◌, Bool, true, false, not, List, [], ◌∷◌, length, map, refl, sym, ◌∙◌, ap, subst, subst₂, inl, inr, arith, IsTrue, true≢false}
 use Rattle.std.specs.Prelude.{IsFalse, nat_le}
 use Rattle.std.specs.Ordering.{is_ge, ordering_reverse}
 use Rattle.std.specs.declared.cmp.Ordering.{Ordering}
-use Rattle.std.specs.declared.cmp.Ordering.TheVariants.{Less, Equal}
+use Rattle.std.specs.declared.cmp.Ordering.TheVariants.{Less}
 use Rattle.std.proofs.lemmas.Bool.Decides.{nat_tests}
 use Rattle.rinv_algebra.specs.Ring.{RingOps, RingLaws, IsSame}
 use Rattle.rinv_algebra.specs.Monomial.{same_monomial}
@@ -15,14 +15,14 @@ use Rattle.rinv_algebra.specs.Polynomial.{Polynomial, poly_ops, coefficient, has
 use Rattle.rinv_algebra.specs.Normal.{is_in_variables}
 use Rattle.rinv_algebra.specs.Leading.{IsLeadingMonomial, leading_monomial}
 use Rattle.rinv_algebra.proofs.Same.{both, IsAbsent, coefficient-absent, coefficient-same_monomial, same-from_coefficients}
-use Rattle.rinv_theory.proofs.Classes.{class, class_sound, class_exact, class_ring, class-zero}
-use Rattle.rinv_theory.proofs.Monoid.{IsOne, monomial, monomial_ind, monomial_sound}
+use Rattle.rinv_theory.proofs.Classes.{class, class_sound, class_exact, class-zero}
+use Rattle.rinv_theory.proofs.Monoid.{IsOne, monomial, monomial_sound}
 use Rattle.rinv_theory.proofs.Polynomials.{polynomials, class-coefficient}
 use Rattle.rinv_theory.proofs.Leads.{Leads}
 use Rattle.rinv_theory.proofs.WellOrders.{tied}
 use Rattle.rinv_groebner.proofs.Ascending.{Has}
-use Rattle.rinv_groebner.proofs.Greatest.{has-filter, filter-passes, not_less, ge-not_less, reduced}
-use Rattle.rinv_groebner.proofs.FirstVariables.{order_in, order_in-less, below-less_in}
+use Rattle.rinv_groebner.proofs.Greatest.{has-filter, filter-passes, not_less, reduced}
+use Rattle.rinv_groebner.proofs.FirstVariables.{order_in, order_in-less}
 
 -- the monomials of the terms
 abbrev listed : {E : Type 0} → Polynomial E → List (List ℕ)
@@ -108,31 +108,7 @@ module _ {E : Type 0} (o : RingOps E) (l : RingLaws o) where
               subst (λ (x : Ordering). IsTrue (is_ge x)) (sees (leading_monomial o cmp f) b e s) (r.1 b (has-filter (has_monomial o f) k (has_monomial-same f b e s ∙ h)));
         }
 
-    module _ (v : ℕ) (ties : (a b : List ℕ) → length a ≡ v → length b ≡ v → cmp a b ≡ Equal → a ≡ b) where
-      -- two monomials that f has, as terms in v variables
-      below-less_of : (f : Polynomial E) → IsTrue (is_in_variables v f) → (m e : List ℕ) → IsTrue (has_monomial o f m) → IsTrue (has_monomial o f e) → (order_in cmp laws v).below (monomial m) (monomial e) → cmp m e ≡ Less
-      below-less_of f h m e hm he p =
-          let (a, k, s) = present f m hm in
-          let (b, j, t) = present f e he in
-          let low : cmp a b ≡ Less = below-less_in cmp laws v ties a b (listed-length v f h k) (listed-length v f h j) (subst₂ (order_in cmp laws v).below (sym (monomial_sound a m s)) (sym (monomial_sound b e t)) p) in
-          sym (laws.total.congr a m e (tied cmp laws.total laws.kept a m s)) ∙ sym (sees a b e t) ∙ low
-
-      -- the greatest monomial of a sum in v variables is that of its class
-      pub leads-in : (f : Polynomial E) → IsTrue (is_in_variables v f) → (m : List ℕ) → IsLeadingMonomial o cmp f m → Leads (polynomials o l) (order_in cmp laws v) (class (poly_ops o) f) (monomial m)
-      leads-in f h m r = record {
-        nonzero = λ z. has-nonzero f m r.has (class_exact o l _ _ (sym (class-coefficient o l f m) ∙ z ∙ sym (class-zero o l)));
-        above = monomial_ind (λ e. (order_in cmp laws v).below (monomial m) e → (polynomials o l).coefficient (class (poly_ops o) f) e ≡ (class_ring o l).zero) (λ e. hlevel ((class_ring o l).is_set)) (λ e p. at e p (o.same (coefficient o f e) o.zero) refl);
-      }
-        where
-          at : (e : List ℕ) → (order_in cmp laws v).below (monomial m) (monomial e) → (b : Bool) → o.same (coefficient o f e) o.zero ≡ b → (polynomials o l).coefficient (class (poly_ops o) f) (monomial e) ≡ (class_ring o l).zero
-          at e p true s = class-coefficient o l f e ∙ class_sound o l _ _ s ∙ class-zero o l
-          at e p false s = absurd (ge-not_less cmp laws.total m e (r.greatest e (ap not s)) (below-less_of f h m e r.has (ap not s) p))
-
-      -- so the leading monomial of a sum that is not zero leads its class
-      pub class-leads : (f : Polynomial E) → IsTrue (is_in_variables v f) → IsFalse (is_zero o f) → Leads (polynomials o l) (order_in cmp laws v) (class (poly_ops o) f) (monomial (leading_monomial o cmp f))
-      class-leads f h n = leads-in f h (leading_monomial o cmp f) (leading_monomial-leads f n)
-
-    -- and the other way round, in any number of variables that hold those of the sum
+    -- the greatest monomial of the class is that of the sum, in any number of variables that hold those of the sum
     pub leads-out : (v : ℕ) (f : Polynomial E) → IsTrue (is_in_variables v f) → (m : List ℕ) → Leads (polynomials o l) (order_in cmp laws v) (class (poly_ops o) f) (monomial m) → IsLeadingMonomial o cmp f m
     leads-out v f h m r = record {
       has = here;

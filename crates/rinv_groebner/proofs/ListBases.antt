@@ -1,7 +1,7 @@
 -- A list of polynomials whose pairs are all good is a Gröbner basis of its ideal.
 --   member-multiples     a member of the ideal of a list is a sum of multiples of its elements that are not zero
 --   good_basis           Buchberger's criterion, for lists
-use Rattle.std.proofs.Common.{◌≡◌, ℕ, Bool, true, false, List, [], get_or, refl, sym, ◌∙◌, ap, ap₂, subst, IsTrue}
+use Rattle.std.proofs.Common.{◌≡◌, ℕ, Bool, true, false, List, [], get_or, refl, sym, ◌∙◌, ap, subst, IsTrue}
 use Rattle.std.specs.Prelude.{IsFalse}
 use Rattle.std.specs.declared.cmp.Ordering.{Ordering}
 use mathlib.Core.Bool.{Bool-set}
@@ -19,12 +19,15 @@ use Rattle.rinv_theory.proofs.Of.{of_any}
 use Rattle.rinv_theory.proofs.Ideals.{In}
 use Rattle.rinv_theory.proofs.Members.{generator, member-in}
 use Rattle.rinv_groebner.specs.Orders.{OrdersMonomials}
+use Rattle.rinv_theory.proofs.Variables.{in_variables-of}
 use Rattle.rinv_groebner.specs.Division.{is_reducible}
+use Rattle.rinv_groebner.specs.Basis.{IsGroebnerBasis}
+use Rattle.rinv_groebner.proofs.MembersOfLists.{member_generator, members_from}
 use Rattle.rinv_groebner.proofs.Multiples.{Multiples, AnyMultiples, multiples-add, multiples-element}
 use Rattle.rinv_groebner.proofs.Pairs.{IsGood}
 use Rattle.rinv_groebner.proofs.Criterion.{lead-divisible}
 use Rattle.rinv_groebner.proofs.FirstVariables.{order_in-well}
-use Rattle.rinv_groebner.proofs.Compared.{all_monomials, InFirst, class_leads}
+use Rattle.rinv_groebner.proofs.Compared.{InFirst, class_leads}
 use Rattle.rinv_groebner.proofs.ListElements.{AllFirst, Place, list_elements}
 use Rattle.rinv_groebner.proofs.Reducible.{place_reducible}
 
@@ -49,3 +52,10 @@ module _ {E : Type 0} (o : RingOps E) (l : RingLaws o) (field : FieldLaws o) (cm
   good_basis good f r m n = ∥∥₁_elim (member-multiples f m) (Bool-set _ _) (λ s.
       let (k, t, e) = lead-divisible (list_elements o l field cmp v order hs first) good (order_in-well cmp order.laws v).well_founded (class (poly_ops o) f) s (monomial (leading_monomial o cmp f)) (class_leads o l v cmp order f r n) in
       place_reducible o cmp hs (leading_monomial o cmp f) k (t, e))
+
+  -- and the list is a Gröbner basis of its ideal
+  pub good-list_basis : ((x y : Place o hs) → IsGood (list_elements o l field cmp v order hs first) x y) → IsGroebnerBasis o cmp v hs hs
+  good-list_basis good = record {
+    ideal = (members_from o l hs hs (member_generator o l hs), members_from o l hs hs (member_generator o l hs));
+    divided = λ f f_in m n. good_basis good f (in_variables-of o l v f f_in) m n;
+  }

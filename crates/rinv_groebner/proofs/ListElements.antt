@@ -3,31 +3,28 @@
 --   list_elements        the elements
 --   list-leads           their leading monomials
 --   place_dec, reducible_or    whether some leading monomial divides a monomial
-use Rattle.std.proofs.Common.{◌≡◌, ◌⊎◌, ℕ, zero, suc, ◌<◌, Bool, true, false, not, cond, List, [], ◌∷◌, length, get_or, refl, sym, ◌∙◌, ap, ap₂, subst, inl, inr, arith, IsTrue, true≢false}
+use Rattle.std.proofs.Common.{◌≡◌, ℕ, zero, suc, Bool, true, false, not, cond, List, [], ◌∷◌, get_or, refl, sym, ◌∙◌, ap, ap₂, subst, IsTrue, true≢false}
 use Rattle.std.specs.Prelude.{IsFalse}
-use Rattle.std.specs.List.{list_all, list_any}
+use Rattle.std.specs.List.{list_all}
 use Rattle.std.specs.declared.cmp.Ordering.{Ordering}
 use Rattle.rinv_algebra.specs.Ring.{RingOps, RingLaws, FieldLaws, IsSame}
-use Rattle.rinv_algebra.specs.Monomial.{divides}
-use Rattle.rinv_algebra.specs.Polynomial.{Polynomial, poly_ops, coefficient, is_zero}
+use Rattle.rinv_algebra.specs.Polynomial.{Polynomial, poly_ops, is_zero}
 use Rattle.rinv_algebra.specs.Normal.{is_in_variables}
 use Rattle.rinv_algebra.specs.Leading.{leading_monomial, leading_coefficient}
-use Rattle.rinv_algebra.proofs.PolynomialLaws.{poly_laws}
 use Rattle.rinv_algebra.proofs.Same.{both}
 use Rattle.rinv_theory.proofs.CRing.{CRing, add_zero}
-use Rattle.rinv_theory.proofs.Classes.{Class, class, class_ring, class_sound, class-mul, class-one, class-zero}
-use Rattle.rinv_theory.proofs.Monoid.{Monoid, Monomial, monomial, monomials}
+use Rattle.rinv_theory.proofs.Classes.{class, class_ring, class_sound, class-mul, class-one}
+use Rattle.rinv_theory.proofs.Monoid.{Monoid, monomial}
 use Rattle.rinv_theory.proofs.TermRing.{TermRing}
 use Rattle.rinv_theory.proofs.Polynomials.{polynomials, poly_ring, class-coefficient}
 use Rattle.rinv_theory.proofs.Of.{Of, of-weaken, of-coefficient}
-use Rattle.rinv_theory.proofs.Variables.{IsFront, in_variables-of}
-use Rattle.rinv_theory.proofs.Leads.{MonomialOrder, IsUpTo, Leads, lead-of, upto-from, below-ne}
+use Rattle.rinv_theory.proofs.Variables.{in_variables-of}
+use Rattle.rinv_theory.proofs.Leads.{MonomialOrder, Leads, lead-of, upto-from, below-ne}
 use Rattle.rinv_groebner.specs.Orders.{OrdersMonomials}
-use Rattle.rinv_groebner.specs.Division.{lead_divides, is_reducible}
 use Rattle.rinv_groebner.proofs.Elements.{Elements}
 use Rattle.rinv_groebner.proofs.Division.{Top, top}
 use Rattle.rinv_groebner.proofs.LeadingMonomials.{leading_monomial-leads}
-use Rattle.rinv_groebner.proofs.Compared.{all_monomials, InFirst, class_leads, has-coefficient}
+use Rattle.rinv_groebner.proofs.Compared.{all_monomials, InFirst, class_leads}
 
 get_or-nil : {X : Type 0} {d : X} (k : ℕ) → get_or [] k d ≡ d
 get_or-nil zero = refl
@@ -56,7 +53,8 @@ module _ {E : Type 0} (o : RingOps E) (l : RingLaws o) (v : ℕ) where
   abbrev pub AllFirst : List (Polynomial E) → Type 0
   AllFirst hs = (k : ℕ) → InFirst o l v (get_or hs k [])
 
-  nil_first : InFirst o l v []
+  -- zero is one
+  pub nil_first : InFirst o l v []
   nil_first = in_variables-of o l v [] refl
 
   -- which is so where they are written in these

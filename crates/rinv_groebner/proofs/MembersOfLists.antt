@@ -3,16 +3,15 @@
 --   member_generator     an element of the list
 --   member_trans         a member of the ideal of members
 --   members_at, members_from    lists of members, place by place
-use Rattle.std.proofs.Common.{◌≡◌, ℕ, zero, suc, ◌+◌, List, [], ◌∷◌, ◌++◌, length, map, get_or, refl, sym, ◌∙◌, ap, ap₂, arith}
-use Rattle.std.specs.List.{AllByRecursion}
+use Rattle.std.proofs.Common.{◌≡◌, ℕ, zero, suc, ◌+◌, List, [], ◌∷◌, ◌++◌, map, get_or, refl, sym, ◌∙◌, ap, ap₂, arith}
 use Rattle.std.proofs.lemmas.List.{length-map}
-use Rattle.rinv_algebra.specs.Ring.{RingOps, RingLaws, IsSame}
+use Rattle.rinv_algebra.specs.Ring.{RingOps, RingLaws}
 use Rattle.rinv_algebra.specs.Polynomial.{Polynomial, poly_ops, product}
 use Rattle.rinv_algebra.specs.Ideal.{combination, IsMember}
 use Rattle.rinv_algebra.proofs.PolynomialLaws.{poly_laws}
 use Rattle.rinv_theory.proofs.CRing.{CRing, add_zero, mul_zero}
 use Rattle.rinv_theory.proofs.Solver.{ring, reading}
-use Rattle.rinv_theory.proofs.Classes.{Class, class, class_sound, class_exact, class-add, class-mul, class-zero, class-one}
+use Rattle.rinv_theory.proofs.Classes.{class_sound, class_exact, class-add, class-mul, class-zero, class-one}
 use Rattle.rinv_theory.proofs.Polynomials.{poly_ring}
 use Rattle.rinv_theory.proofs.Members.{generator, poly, member_none, member_more, combination-cons}
 use Rattle.rinv_groebner.specs.Basis.{AreMembers}
@@ -74,7 +73,8 @@ module _ {E : Type 0} (o : RingOps E) (l : RingLaws o) where
         whole : poly o l (get_or fs k []) ≡ (poly_ring o l).add ((poly_ring o l).mul (poly o l (poly_ops o).one) (generator o l fs k)) (poly o l [])
         whole = sym (ap₂ (λ x y. (poly_ring o l).add ((poly_ring o l).mul x (generator o l fs k)) y) (class-one (poly_ops o) (poly_laws o l)) (class-zero (poly_ops o) (poly_laws o l)) ∙ add_zero (poly_ring o l) _ ∙ (poly_ring o l).one_mul _)
 
-    combination_member : (us gs : List (Polynomial E)) → ((k : ℕ) → IsMember o fs (get_or gs k [])) → IsMember o fs (combination o us gs)
+    -- a combination of members
+    pub combination_member : (us gs : List (Polynomial E)) → ((k : ℕ) → IsMember o fs (get_or gs k [])) → IsMember o fs (combination o us gs)
     unfolding combination
     combination_member [] gs all = member_none o l fs [] (class-zero (poly_ops o) (poly_laws o l))
     combination_member (u ∷ us) [] all = member_none o l fs [] (class-zero (poly_ops o) (poly_laws o l))

@@ -1,18 +1,13 @@
 -- The elements of a Gröbner basis that are kept: no other greatest monomial properly divides theirs, and no earlier one is equal.
 --   kept_divisor         the greatest monomial of each element is a multiple of that of a kept one
---   kept_basis           the kept elements are a Gröbner basis
 use Rattle.std.proofs.Common.{◌≡◌, ◌⊎◌, ℕ, zero, suc, ◌<◌, refl, ◌∙◌, ap, subst, inl, inr, arith}
 use mathlib.Core.WellFounded.{Acc}
-use mathlib.Core.Logic.{∥∥₁_map}
-use Rattle.rinv_theory.proofs.CRing.{CRing}
 use Rattle.rinv_theory.proofs.Monoid.{Monoid}
-use Rattle.rinv_theory.proofs.TermRing.{TermRing}
 use Rattle.rinv_theory.proofs.Leads.{MonomialOrder, IsUpTo}
 use Rattle.rinv_theory.proofs.WellOrders.{IsWellOrder}
 use Rattle.rinv_groebner.proofs.Divisors.{divisor-upto}
-use Rattle.rinv_groebner.proofs.Bases.{IsBasis}
 
--- any order of the monomials with no endless descent serves for the choice; the basis may be one in another order
+-- any order of the monomials with no endless descent serves
 module _ {M I : Type 0} {𝓜 : Monoid M} (𝓦 : MonomialOrder 𝓜) (well : IsWellOrder 𝓦) (lm : I → M) (place : I → ℕ) (Kept : I → Type 0)
     (chosen : (i : I) → Kept i ⊎ ((j : I) × (s : M) × (𝓜.mul s (lm j) ≡ lm i) × ((lm j ≡ lm i → ⊥) ⊎ (place j < place i)))) where
   abbrev pub Found : I → Type 0
@@ -40,14 +35,3 @@ module _ {M I : Type 0} {𝓜 : Monoid M} (𝓦 : MonomialOrder 𝓜) (well : Is
   -- the greatest monomial of each element is a multiple of that of a kept one
   pub kept_divisor : (i : I) → Found i
   kept_divisor i = below_lead (lm i) (well.well_founded.apply (lm i)) i refl
-
-  -- the kept elements are a Gröbner basis
-  pub kept_basis : {K P : Type 0} {𝓚 : CRing K} (𝓣 : TermRing 𝓚 𝓜 P) (𝓞 : MonomialOrder 𝓜) (Mem : P → Type 0) (g : I → P) → IsBasis 𝓣 𝓞 Mem lm g → IsBasis 𝓣 𝓞 Mem {I = (i : I) × Kept i} (λ i. lm i.0) (λ i. g i.0)
-  kept_basis 𝓣 𝓞 Mem g b = record {
-    member = λ i. b.member i.0;
-    leads = λ i. b.leads i.0;
-    covers = λ f m n l. ∥∥₁_map (b.covers f m n l) (λ c. go n c.0 c.1 c.2 (kept_divisor c.0));
-  }
-    where
-      go : (n : M) (i : I) (s : M) → 𝓜.mul s (lm i) ≡ n → Found i → (k : (i : I) × Kept i) × (s : M) × (𝓜.mul s (lm k.0) ≡ n)
-      go n i s e (k, q, t, e') = ((k, q), 𝓜.mul s t, 𝓜.mul_assoc s t (lm k) ∙ ap (𝓜.mul s) e' ∙ e)

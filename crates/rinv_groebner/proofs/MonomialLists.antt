@@ -6,14 +6,14 @@
 --   lcm_left, lcm_right, lcm_least    a least common multiple
 --   front_at, front_from, lcm-front, quotient-front    monomials in the first v variables
 --   coprime_multiples    where two multiples of coprime monomials are equal, each has the other monomial for a factor
-use Rattle.std.proofs.Common.{◌≡◌, ◌⊎◌, ℕ, zero, suc, ◌+◌, ◌-◌, ◌<◌, ◌≤◌, max, Bool, true, false, List, [], ◌∷◌, length-take, take, get_or, refl, sym, ◌∙◌, ap, ap₂, arith, inl, inr, IsTrue}
+use Rattle.std.proofs.Common.{◌≡◌, ◌⊎◌, ℕ, zero, suc, ◌+◌, ◌-◌, ◌<◌, ◌≤◌, max, List, [], ◌∷◌, length-take, take, get_or, refl, sym, ◌∙◌, ap, arith, inl, inr, IsTrue}
 use Rattle.std.specs.Prelude.{nat_le}
 use Rattle.std.proofs.lemmas.Bool.{cases_Bool}
 use Rattle.std.proofs.lemmas.List.{get_or-take, get_or_past}
 use Rattle.std.proofs.lemmas.Bool.Decides.{nat_tests}
 use mathlib.Core.Bool.{Bool-set}
 use mathlib.Core.HLevel.{Σ_prop_path}
-use Rattle.rinv_algebra.specs.Monomial.{same_monomial, monomial_product, divides, quotient, lcm, coprime}
+use Rattle.rinv_algebra.specs.Monomial.{monomial_product, divides, quotient, lcm, coprime}
 use Rattle.rinv_algebra.proofs.MonomialLaws.{get_or-product, same_at, same_from}
 use Rattle.rinv_theory.proofs.Monoid.{IsOne, Monomial, monomial, monomials, monomial_ind, monomial_sound, monomial_exact, monomial-mul}
 use Rattle.rinv_theory.proofs.Places.{front-list}
@@ -122,10 +122,10 @@ coprime_multiples a b h s t e = whole (monomial_ind (λ s. (t : Monomial) → mo
     at_lists c d e =
         let one : IsOne (monomial_product c a) (monomial_product d b) = monomial_exact _ _ (monomial-mul c a ∙ e ∙ sym (monomial-mul d b)) in
         divides-divisor b c (divides_from b c (λ k.
-            let x = same_at _ _ one k in
-            let y = get_or-product c a k in
-            let z = get_or-product d b k in
-            elim (coprime_at a b h k) [ inl n ↦ omega (arith, x, y, z, n) | inr n ↦ omega (arith, x, y, z, n) ]))
+        let x = same_at _ _ one k in
+        let y = get_or-product c a k in
+        let z = get_or-product d b k in
+        elim (coprime_at a b h k) [ inl n ↦ omega (arith, x, y, z, n) | inr n ↦ omega (arith, x, y, z, n) ]))
 
     -- (w*b)*a = t*b, so w*a = t
     other : (w : Monomial) → monomials.mul w (monomial b) ≡ s → monomials.mul w (monomial a) ≡ t

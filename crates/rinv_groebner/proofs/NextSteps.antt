@@ -2,30 +2,27 @@
 --   next_or_irreducible    the greatest reducible monomial, where there is one
 --   next_step            the step that cancels it
 --   division_exists      each polynomial can be divided
-use Rattle.std.proofs.Common.{◌≡◌, ◌⊎◌, ℕ, Bool, true, false, not, List, [], ◌∷◌, get_or, map, cond, refl, sym, ◌∙◌, ap, subst, inl, inr, IsTrue, true≢false}
-use Rattle.std.specs.Prelude.{IsFalse, filter, unwrap_or, if◌then◌else◌}
+use Rattle.std.proofs.Common.{◌≡◌, ◌⊎◌, ℕ, Bool, true, false, List, [], ◌∷◌, get_or, map, cond, refl, sym, ◌∙◌, ap, subst, inl, inr, IsTrue}
+use Rattle.std.specs.Prelude.{filter, unwrap_or, if◌then◌else◌}
 use Rattle.std.specs.List.{reduce}
 use Rattle.std.specs.Ordering.{is_lt, is_ge}
 use Rattle.std.specs.declared.cmp.Ordering.{Ordering}
 use mathlib.Core.WellFounded.{Acc}
 use Rattle.rinv_algebra.specs.Ring.{RingOps, RingLaws, FieldLaws, IsSame}
 use Rattle.rinv_algebra.specs.Monomial.{quotient}
-use Rattle.rinv_algebra.specs.Polynomial.{Polynomial, poly_ops, coefficient, has_monomial, monomials, term_product, difference}
+use Rattle.rinv_algebra.specs.Polynomial.{Polynomial, coefficient, has_monomial, monomials, term_product, difference}
 use Rattle.rinv_algebra.specs.Leading.{leading_monomial, leading_coefficient}
-use Rattle.rinv_algebra.proofs.MonomialLaws.{same_monomial_sym}
 use Rattle.rinv_algebra.proofs.PolynomialLaws.{poly_laws}
-use Rattle.rinv_algebra.proofs.RingFacts as facts
 use Rattle.rinv_theory.proofs.AlikeSolver.{alike_ring, alike_by, alike_reading}
 use Rattle.rinv_theory.proofs.Monoid.{IsOne, Monomial, monomial}
-use Rattle.rinv_theory.proofs.WellOrders.{IsWellOrder}
 use Rattle.rinv_groebner.specs.Orders.{OrdersMonomials}
-use Rattle.rinv_groebner.specs.Division.{Step, lead_divides, is_reducible, IsIrreducible, IsNext, IsStep, IsDivision}
+use Rattle.rinv_groebner.specs.Division.{Step, is_reducible, IsIrreducible, IsNext, IsStep, IsDivision}
 use Rattle.rinv_groebner.proofs.Ascending.{Has}
 use Rattle.rinv_groebner.proofs.Greatest.{has-filter, filter-passes, reduced}
 use Rattle.rinv_groebner.proofs.FirstVariables.{order_in-well}
 use Rattle.rinv_groebner.proofs.LeadingMonomials.{present, has_monomial-same}
 use Rattle.rinv_groebner.proofs.MonomialLists.{product-quotient}
-use Rattle.rinv_groebner.proofs.Compared.{all_monomials, InFirst, first-same, compare-right}
+use Rattle.rinv_groebner.proofs.Compared.{all_monomials, InFirst, compare-right}
 use Rattle.rinv_groebner.proofs.ListElements.{AllFirst, lead-inverse}
 use Rattle.rinv_groebner.proofs.Reducible.{divides-parts, first_divisor, divisor_reducible, reducible-one}
 use Rattle.rinv_groebner.proofs.StepClasses.{step-first, step-falls}
@@ -69,14 +66,17 @@ module _ {E : Type 0} (o : RingOps E) (l : RingLaws o) (field : FieldLaws o) (cm
       some {x} k =
           let m : List ℕ = unwrap_or (reduce (λ a b. if is_lt (cmp a b) then b else a) (candidates f)) [] in
           let r : Has m (candidates f) × ((z : List ℕ) → Has z (candidates f) → IsTrue (is_ge (cmp m z))) = reduced cmp order.laws.total (candidates f) [] k in
-          let (p, inside, divides, first) = first_divisor o cmp hs m (filter-passes (is_reducible o cmp hs) (monomials o f) r.0) in
-          (m, p, record {
-            has = filter-passes (has_monomial o f) (map (λ t. t.0) f) (filter-within (is_reducible o cmp hs) m (monomials o f) r.0);
-            greatest = λ e h d. let (a, j, s) = listed f e h d in subst (λ (c : Ordering). IsTrue (is_ge c)) (compare-right cmp v order m a e s) (r.1 a j);
-            inside = inside;
-            divides = divides;
-            first = first;
-          })
+          let (p, inside, divides, first) = first_divisor o cmp hs m (filter-passes (is_reducible o cmp hs) (monomials o f) r.0) in (
+            m,
+            p,
+            record {
+              has = filter-passes (has_monomial o f) (map (λ t. t.0) f) (filter-within (is_reducible o cmp hs) m (monomials o f) r.0);
+              greatest = λ e h d. let (a, j, s) = listed f e h d in subst (λ (c : Ordering). IsTrue (is_ge c)) (compare-right cmp v order m a e s) (r.1 a j);
+              inside = inside;
+              divides = divides;
+              first = first;
+            },
+          )
 
       go : (ms : List (List ℕ)) → candidates f ≡ ms → ((m : List ℕ) × (p : ℕ) × IsNext o cmp hs f m p) ⊎ IsIrreducible o cmp hs f
       go [] e = inr (λ m h. none e m h (is_reducible o cmp hs m) refl)
@@ -91,14 +91,18 @@ module _ {E : Type 0} (o : RingOps E) (l : RingLaws o) (field : FieldLaws o) (cm
       let h = get_or hs p [] in
       let both = divides-parts o cmp h m n.divides in
       let inverse = lead-inverse o l field cmp v order h both.0 in
-      let s : Step E = record { place = p; multiplier = (quotient m (leading_monomial o cmp h), o.mul (coefficient o f m) inverse.0) } in
-      (s, difference o f (term_product o s.multiplier h), record {
-        cancelled = m;
-        next = n;
-        monomial = product-quotient m (leading_monomial o cmp h) both.1;
-        coefficient = over_lead (coefficient o f m) (leading_coefficient o cmp h) inverse.0 inverse.1;
-        taken = (poly_laws o l).same_refl _;
-      }, refl)
+      let s : Step E = record { place = p; multiplier = (quotient m (leading_monomial o cmp h), o.mul (coefficient o f m) inverse.0) } in (
+        s,
+        difference o f (term_product o s.multiplier h),
+        record {
+          cancelled = m;
+          next = n;
+          monomial = product-quotient m (leading_monomial o cmp h) both.1;
+          coefficient = over_lead (coefficient o f m) (leading_coefficient o cmp h) inverse.0 inverse.1;
+          taken = (poly_laws o l).same_refl _;
+        },
+        refl,
+      )
 
   module _ (first : AllFirst o l v hs) where
     -- steps to a rest that is irreducible

@@ -2,25 +2,23 @@
 --   s_polynomial-class   the S-polynomial is the difference of two multiples that cancel
 --   s_polynomial-passes  its monomials are in the first v variables, and below the least common multiple
 --   quotients-good, coprime-good, chain-good    when a pair is good
-use Rattle.std.proofs.Common.{◌≡◌, ℕ, Bool, true, false, List, [], get_or, sym, ◌∙◌, ap, ap₂, subst, IsTrue, true≢false}
-use Rattle.std.specs.Prelude.{IsFalse}
+use Rattle.std.proofs.Common.{◌≡◌, ℕ, true, List, [], get_or, sym, ◌∙◌, ap, ap₂, subst, IsTrue, true≢false}
 use Rattle.std.specs.declared.cmp.Ordering.{Ordering}
 use Rattle.rinv_algebra.specs.Ring.{RingOps, RingLaws, FieldLaws}
 use Rattle.rinv_algebra.specs.Monomial.{divides, quotient, lcm, coprime}
-use Rattle.rinv_algebra.specs.Polynomial.{Polynomial, poly_ops, is_zero, term_product}
+use Rattle.rinv_algebra.specs.Polynomial.{Polynomial, poly_ops, term_product}
 use Rattle.rinv_algebra.specs.Leading.{leading_monomial, multiplier, s_polynomial}
-use Rattle.rinv_theory.proofs.CRing.{CRing}
 use Rattle.rinv_theory.proofs.Classes.{Class, class, class_ring}
 use Rattle.rinv_theory.proofs.Monoid.{Monomial, monomial, monomials}
 use Rattle.rinv_theory.proofs.TermRing.{term-neg}
 use Rattle.rinv_theory.proofs.Polynomials.{polynomials, poly_ring, term_at}
 use Rattle.rinv_theory.proofs.Of.{Of, of-add, of-times, of-coefficient, of_where}
-use Rattle.rinv_theory.proofs.Places.{front, front-mul}
+use Rattle.rinv_theory.proofs.Places.{front-mul}
 use Rattle.rinv_theory.proofs.Variables.{IsFront}
 use Rattle.rinv_groebner.specs.Orders.{OrdersMonomials}
 use Rattle.rinv_groebner.proofs.Elements.{Elements, IsBelow}
 use Rattle.rinv_groebner.proofs.Pairs.{cancelling, IsGood, good_quotients, good_chain, good_coprime}
-use Rattle.rinv_groebner.proofs.MonomialLists.{Divisor, lcm_left, lcm_right, lcm_least, quotient_divisor, lcm-front, quotient-front, divides-divisor, divisor_trans, coprime_multiples}
+use Rattle.rinv_groebner.proofs.MonomialLists.{lcm_left, lcm_least, quotient_divisor, lcm-front, quotient-front, divides-divisor, divisor_trans, coprime_multiples}
 use Rattle.rinv_groebner.proofs.Compared.{all_monomials, InFirst, nonzero-front, class_leads}
 use Rattle.rinv_groebner.proofs.ListElements.{AllFirst, Place, list_elements}
 use Rattle.rinv_groebner.proofs.StepClasses.{negated, class-term_product, class-difference}

@@ -2,7 +2,8 @@
 --   step-same            a step depends on the coefficients alone
 --   Path hs f steps left    the steps take f to what is left
 --   path_steps, steps_path    the two are one
-use Rattle.std.proofs.Common.{◌≡◌, ℕ, List, [], ◌∷◌, ◌++◌, get_or, sym, ◌∙◌, IsTrue}
+--   steps-same           steps depend on the coefficients alone
+use Rattle.std.proofs.Common.{ℕ, List, [], ◌∷◌, ◌++◌, get_or, sym, ◌∙◌}
 use Rattle.std.specs.declared.cmp.Ordering.{Ordering}
 use Rattle.rinv_algebra.specs.Ring.{RingOps, RingLaws, IsSame}
 use Rattle.rinv_algebra.specs.Polynomial.{Polynomial, poly_ops, opposite, term_product}
@@ -58,3 +59,11 @@ module _ {E : Type 0} (o : RingOps E) (cmp : List ℕ → List ℕ → Ordering)
     pub path_steps : {f left : Polynomial E} {steps : List (Step E)} → Path f steps left → Steps o cmp hs f steps left
     path_steps (stay {left = left} e) = Steps.start left e
     path_steps (take {s = s} step p) = step_first s step (path_steps p)
+
+    path-same : {f g left other : Polynomial E} {steps : List (Step E)} → Path f steps left → IsSame (poly_ops o) f g → IsSame (poly_ops o) other left → Path g steps other
+    path-same (stay a) e e' = stay (facts.then (poly_ops o) (poly_laws o l) e' (facts.then (poly_ops o) (poly_laws o l) a e))
+    path-same {f} {g} (take {mid = mid} {s = s} step p) e e' = take (step-same f g mid mid s e ((poly_laws o l).same_refl mid) step) (path-same p ((poly_laws o l).same_refl mid) e')
+
+    -- steps depend on the coefficients alone
+    pub steps-same : {f g left other : Polynomial E} {steps : List (Step E)} → IsSame (poly_ops o) f g → IsSame (poly_ops o) other left → Steps o cmp hs f steps left → Steps o cmp hs g steps other
+    steps-same e e' r = path_steps (path-same (steps_path r) e e')

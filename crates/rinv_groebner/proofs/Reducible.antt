@@ -4,24 +4,24 @@
 --   place_reducible, reducible_place    at places of the list
 --   divides-one, reducible-one    however the monomial is written
 --   lead_divides-same    it depends on the coefficients and the monomial alone
-use Rattle.std.proofs.Common.{◌≡◌, ◌⊎◌, ℕ, zero, suc, ◌<◌, Bool, true, false, not, ◌&&◌, List, [], ◌∷◌, length, get_or, refl, sym, ◌∙◌, ap, ap₂, ◌||◌, subst, subst₂, inl, inr, arith, IsTrue, true≢false}
+use Rattle.std.proofs.Common.{◌≡◌, ◌⊎◌, ℕ, zero, suc, ◌<◌, Bool, not, ◌&&◌, List, [], ◌∷◌, length, get_or, refl, sym, ◌∙◌, ap, ap₂, ◌||◌, subst, subst₂, inl, inr, arith, IsTrue, true≢false}
 use Rattle.std.specs.Prelude.{IsFalse}
-use Rattle.std.specs.List.{list_any, AllZip}
+use Rattle.std.specs.List.{list_any}
 use Rattle.std.specs.Cmp.{both_ways}
 use Rattle.std.proofs.lemmas.Bool.{cases_Bool}
 use Rattle.std.proofs.lemmas.Bool.Decides.{nat_tests}
 use Rattle.std.proofs.lemmas.List.Folds.{list_any_at}
 use Rattle.std.specs.declared.cmp.Ordering.{Ordering}
-use Rattle.rinv_algebra.specs.Ring.{RingOps, RingLaws, FieldLaws, IsSame}
+use Rattle.rinv_algebra.specs.Ring.{RingOps, RingLaws, IsSame}
 use Rattle.rinv_algebra.specs.Monomial.{divides}
 use Rattle.rinv_algebra.specs.Polynomial.{Polynomial, poly_ops, same, is_zero}
 use Rattle.rinv_algebra.specs.Leading.{leading_monomial}
 use Rattle.rinv_algebra.proofs.PolynomialLaws.{poly_laws}
 use Rattle.rinv_algebra.proofs.MonomialLaws.{same_monomial_sym, same_at}
 use Rattle.rinv_algebra.proofs.Degrees.{same-left}
-use Rattle.rinv_algebra.proofs.Same.{both, and_true}
+use Rattle.rinv_algebra.proofs.Same.{and_true}
 use Rattle.rinv_theory.proofs.Classes.{class, class_sound}
-use Rattle.rinv_theory.proofs.Monoid.{IsOne, Monomial, monomial, monomials, monomial_sound}
+use Rattle.rinv_theory.proofs.Monoid.{IsOne, monomial, monomial_sound}
 use Rattle.rinv_theory.proofs.Polynomials.{polynomials}
 use Rattle.rinv_theory.proofs.Leads.{Leads, lead-unique}
 use Rattle.rinv_groebner.specs.Orders.{OrdersMonomials}
@@ -45,7 +45,8 @@ first_passing test d (x ∷ xs) h = elim (cases_Bool (test x)) [
     earlier f before zero l = f
     earlier f before (suc j) l = before j (omega arith)
 
-past_end : {X : Type 0} (xs : List X) (k : ℕ) (d : X) → (k < length xs) ⊎ (get_or xs k d ≡ d)
+-- a place is inside the list, or reads the default
+pub past_end : {X : Type 0} (xs : List X) (k : ℕ) (d : X) → (k < length xs) ⊎ (get_or xs k d ≡ d)
 past_end [] zero d = inr refl
 past_end [] (suc k) d = inr refl
 past_end (x ∷ xs) zero d = inl (omega arith)

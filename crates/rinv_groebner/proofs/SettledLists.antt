@@ -2,42 +2,43 @@
 --   pair_cases           a pair in a list of pairs is the first, in either order, or behind it
 --   nonzero_at           the places of a list without zero
 --   settled-good-list    settled pairs are good
+--   settled_basis        a list whose pairs are settled is a Gröbner basis
 --   all-good             where all pairs of places are good in ascending order, all are
 use Rattle.std.proofs.Common.{◌≡◌, ◌⊎◌, ℕ, zero, suc, ◌<◌, Bool, true, false, not, List, [], ◌∷◌, length, get_or, refl, sym, ◌∙◌, ap, ap₂, subst, subst₂, ◌+◌, inl, inr, arith, IsTrue, true≢false}
 use Rattle.std.specs.Prelude.{IsFalse, ◌||◌, min, max, zip}
 use Rattle.std.specs.List.{list_all}
-use Rattle.std.specs.Ordering.{is_lt}
 use Rattle.std.specs.declared.cmp.Ordering.{Ordering}
-use Rattle.std.specs.declared.cmp.Ordering.TheVariants.{Less, Equal, Greater}
 use Rattle.std.proofs.lemmas.Bool.{cases_Bool, cases_order}
 use Rattle.std.proofs.lemmas.Bool.Decides.{nat_tests}
 use Rattle.rinv_algebra.specs.Ring.{RingOps, RingLaws, FieldLaws}
-use Rattle.rinv_algebra.specs.Monomial.{monomial_product, divides, lcm, coprime}
-use Rattle.rinv_algebra.specs.Polynomial.{Polynomial, poly_ops, is_zero, product}
+use Rattle.rinv_algebra.specs.Monomial.{monomial_product}
+use Rattle.rinv_algebra.specs.Polynomial.{Polynomial, poly_ops, is_zero}
 use Rattle.rinv_algebra.specs.Normal.{is_in_variables}
 use Rattle.rinv_algebra.specs.Ideal.{combination}
-use Rattle.rinv_algebra.specs.Leading.{leading_monomial, s_polynomial}
+use Rattle.rinv_algebra.specs.Leading.{leading_monomial}
 use Rattle.rinv_algebra.proofs.PolynomialLaws.{poly_laws}
 use Rattle.rinv_algebra.proofs.Same.{both}
-use Rattle.rinv_theory.proofs.CRing.{CRing, zero_mul}
-use Rattle.rinv_theory.proofs.Classes.{Class, class, class_sound, class-mul, class-zero}
+use Rattle.rinv_theory.proofs.CRing.{zero_mul}
+use Rattle.rinv_theory.proofs.Classes.{Class, class, class_sound, class-zero}
 use Rattle.rinv_theory.proofs.Monoid.{Monomial, monomial, monomials, monomial-mul}
 use Rattle.rinv_theory.proofs.Polynomials.{polynomials, poly_ring}
-use Rattle.rinv_theory.proofs.Of.{Of, of-weaken}
+use Rattle.rinv_theory.proofs.Of.{of-weaken}
 use Rattle.rinv_theory.proofs.Members.{combination-cons}
 use Rattle.rinv_theory.proofs.Places.{front-mul}
 use Rattle.rinv_theory.proofs.Variables.{IsFront, in_variables-of}
 use Rattle.rinv_theory.proofs.Leads.{IsUpTo, lead-of, upto-from, upto-below, mul-upto}
 use Rattle.rinv_groebner.specs.Orders.{OrdersMonomials}
-use Rattle.rinv_groebner.specs.Basis.{AreNonzero}
-use Rattle.rinv_groebner.specs.Settled.{is_listed, lead_at, lcm_at, stays_below, HasQuotients, HasChain, AreCoprime, AreSettled, AreAllListed}
+use Rattle.rinv_groebner.specs.Basis.{AreNonzero, IsGroebnerBasis}
+use Rattle.rinv_groebner.specs.Settled.{is_listed, lcm_at, stays_below, HasQuotients, HasChain, AreCoprime, AreSettled, AreAllListed}
 use Rattle.rinv_groebner.proofs.Multiples.{Multiples, multiples-add, multiples-element}
 use Rattle.rinv_groebner.proofs.Elements.{IsBelow}
 use Rattle.rinv_groebner.proofs.Pairs.{IsGood, good_self, good_sym}
 use Rattle.rinv_groebner.proofs.Compared.{all_monomials, InFirst, nonzero-front, class_leads, less_below}
 use Rattle.rinv_groebner.proofs.ListElements.{AllFirst, Place, list_elements}
 use Rattle.rinv_groebner.proofs.Reducible.{place-inside}
+use Rattle.rinv_groebner.proofs.Falls.{is-less}
 use Rattle.rinv_groebner.proofs.GoodPairs.{place_equal}
+use Rattle.rinv_groebner.proofs.ListBases.{good-list_basis}
 use Rattle.rinv_groebner.proofs.PairsOfLists.{quotients-good, coprime-good, chain-good, lcm_front}
 
 -- a pair in a list of pairs is the first, in either order, or behind it
@@ -61,11 +62,6 @@ nonzero_at o (f ∷ hs) h (suc k) low = nonzero_at o hs (both (not (is_zero o f)
 
 first_of_either : (a b : Bool) → a ≡ false → (a || b) ≡ true → b ≡ true
 first_of_either a b e h = grind (arith, nat_tests, e, h)
-
-less-is : (c : Ordering) → is_lt c ≡ true → c ≡ Less
-less-is Less e = refl
-less-is Equal e = absurd (true≢false (sym e))
-less-is Greater e = absurd (true≢false (sym e))
 
 module _ {E : Type 0} (o : RingOps E) (l : RingLaws o) (field : FieldLaws o) (cmp : List ℕ → List ℕ → Ordering) (v : ℕ) (order : OrdersMonomials cmp v) (hs : List (Polynomial E)) (first : AllFirst o l v hs) where
   abbrev BelowIn : Monomial → Class (poly_ops o) → Type 0
@@ -91,7 +87,7 @@ module _ {E : Type 0} (o : RingOps E) (l : RingLaws o) (field : FieldLaws o) (cm
       product_below n = subst (λ x. (all_monomials cmp v order).below x (monomial m)) (monomial-mul _ _)
           (less_below cmp v order (monomial_product (leading_monomial o cmp q) (leading_monomial o cmp g)) m
           (subst (IsFront v) (sym (monomial-mul _ _)) (front-mul v _ _ ∙ ap₂ monomials.mul (front_lead q r n) (front_lead g (first p.0) p.1)))
-          fm (less-is _ (first_of_either (is_zero o q) _ n h)))
+          fm (is-less _ (first_of_either (is_zero o q) _ n h)))
 
       reaches : (n : is_zero o q ≡ false) (k : Monomial) → IsUpTo (all_monomials cmp v order) k (monomial (leading_monomial o cmp q)) → (all_monomials cmp v order).below (monomials.mul k (monomial (leading_monomial o cmp g))) (monomial m)
       reaches n k u = upto-below (all_monomials cmp v order) _ _ _ (subst₂ (IsUpTo (all_monomials cmp v order)) (monomials.mul_comm _ _) (monomials.mul_comm _ _) (mul-upto (all_monomials cmp v order) (monomial (leading_monomial o cmp g)) k _ u)) (product_below n)
@@ -151,3 +147,7 @@ module _ {E : Type 0} (o : RingOps E) (l : RingLaws o) (field : FieldLaws o) (cm
     | inr (inl below) ↦ h x y below
     | inr (inr above) ↦ good_sym (list_elements o l field cmp v order hs first) y x (h y x above)
   ]
+
+  -- a list without zero whose pairs are settled is a Gröbner basis of its ideal
+  pub settled_basis : AreNonzero o hs → {pairs : List (ℕ × ℕ)} → AreSettled o cmp v hs pairs → AreAllListed hs pairs → IsGroebnerBasis o cmp v hs hs
+  settled_basis nonzero s all = good-list_basis o l field cmp v order hs first (all-good (λ x y low. settled-good-list nonzero s x y (all x.0 y.0 low (place-inside o cmp hs y))))

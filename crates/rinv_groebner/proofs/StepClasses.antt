@@ -5,33 +5,26 @@
 --   step-first           what is left is a sum of terms in the same variables
 --   step-falls           what is reducible in what is left is less than what was cancelled
 --   step-same            a step depends on the coefficients alone
-use Rattle.std.proofs.Common.{◌≡◌, ◌⊎◌, ℕ, ◌<◌, Bool, true, false, not, List, [], ◌∷◌, ◌++◌, get_or, append-nil, refl, sym, ◌∙◌, ap, ap₂, subst, inl, inr, IsTrue, true≢false}
-use Rattle.std.specs.Prelude.{IsFalse}
-use Rattle.std.specs.Ordering.{is_ge}
+use Rattle.std.proofs.Common.{◌≡◌, ◌⊎◌, ℕ, List, [], ◌∷◌, get_or, append-nil, refl, sym, ◌∙◌, ap, ap₂, subst, inl, inr, IsTrue}
 use Rattle.std.specs.declared.cmp.Ordering.{Ordering}
-use Rattle.std.specs.declared.cmp.Ordering.TheVariants.{Less}
-use Rattle.rinv_algebra.specs.Ring.{RingOps, RingLaws, FieldLaws, IsSame}
-use Rattle.rinv_algebra.specs.Monomial.{monomial_product}
-use Rattle.rinv_algebra.specs.Polynomial.{Term, Polynomial, poly_ops, coefficient, has_monomial, is_zero, term_product, difference, opposite, product}
-use Rattle.rinv_algebra.specs.Leading.{leading_monomial, leading_coefficient}
+use Rattle.rinv_algebra.specs.Ring.{RingOps, RingLaws}
+use Rattle.rinv_algebra.specs.Polynomial.{Term, Polynomial, poly_ops, has_monomial, term_product, difference, opposite, product}
+use Rattle.rinv_algebra.specs.Leading.{leading_monomial}
 use Rattle.rinv_algebra.proofs.PolynomialLaws.{poly_laws}
-use Rattle.rinv_algebra.proofs.Same.{same-coefficients}
-use Rattle.rinv_algebra.proofs.Degrees.{has_monomial-same}
-use Rattle.rinv_algebra.proofs.RingFacts as facts
-use Rattle.rinv_theory.proofs.CRing.{CRing, add_neg, mul_zero, mul_one, zero_mul}
+use Rattle.rinv_theory.proofs.CRing.{CRing, add_neg}
 use Rattle.rinv_theory.proofs.Solver.{ring, reading}
-use Rattle.rinv_theory.proofs.Classes.{Class, class, class_ring, class_sound, class_exact, class-add, class-mul, class-neg, class-zero}
-use Rattle.rinv_theory.proofs.Monoid.{IsOne, Monomial, monomial, monomials, monomial_sound, monomial-mul}
-use Rattle.rinv_theory.proofs.TermRing.{TermRing, term-neg, coefficient-neg}
+use Rattle.rinv_theory.proofs.Classes.{class, class_ring, class_sound, class-add, class-mul, class-neg}
+use Rattle.rinv_theory.proofs.Monoid.{Monomial, monomial, monomials, monomial_sound, monomial-mul}
+use Rattle.rinv_theory.proofs.TermRing.{term-neg, coefficient-neg}
 use Rattle.rinv_theory.proofs.Polynomials.{polynomials, poly_ring, term_at, class-term, class-coefficient}
 use Rattle.rinv_theory.proofs.Of.{Of, of-add, of-times, of-weaken, of-coefficient}
 use Rattle.rinv_theory.proofs.Places.{front, front-mul}
 use Rattle.rinv_theory.proofs.Variables.{IsFront}
-use Rattle.rinv_theory.proofs.Leads.{MonomialOrder, IsUpTo, Leads, lead-of, upto-from, upto-below, mul-upto}
+use Rattle.rinv_theory.proofs.Leads.{IsUpTo, lead-of, upto-from, upto-below, mul-upto}
 use Rattle.rinv_groebner.specs.Orders.{OrdersMonomials}
-use Rattle.rinv_groebner.specs.Division.{Step, lead_divides, is_reducible, IsNext, IsStep}
-use Rattle.rinv_groebner.proofs.Compared.{all_monomials, InFirst, less_below, below_less, has_front, nonzero-front, has-coefficient, coefficient-has, class_leads}
-use Rattle.rinv_groebner.proofs.ListElements.{Place, AllFirst, list-leads}
+use Rattle.rinv_groebner.specs.Division.{Step, is_reducible, IsStep}
+use Rattle.rinv_groebner.proofs.Compared.{all_monomials, InFirst, below_less, has_front, nonzero-front, has-coefficient, coefficient-has, class_leads}
+use Rattle.rinv_groebner.proofs.ListElements.{Place, AllFirst}
 use Rattle.rinv_groebner.proofs.Greatest.{ge-not_less}
 use Rattle.rinv_groebner.proofs.Reducible.{divides-parts}
 

@@ -3,31 +3,29 @@
 --   path-of              those of what is left
 --   path-multiples       what was taken away is a sum of multiples that pass it
 --   path-products        each quotient times its element
-use Rattle.std.proofs.Common.{◌≡◌, ◌⊎◌, ℕ, Bool, true, false, cond, List, [], ◌∷◌, get_or, refl, sym, ◌∙◌, ap, ap₂, subst, inl, inr, arith, IsTrue}
+use Rattle.std.proofs.Common.{◌≡◌, ℕ, Bool, true, List, [], get_or, sym, ◌∙◌, ap, ap₂, subst, inl, inr, arith}
 use Rattle.std.specs.Prelude.{◌==◌}
 use Rattle.std.proofs.lemmas.Bool.{cases_Bool}
 use Rattle.std.proofs.lemmas.Bool.Decides.{nat_tests}
 use Rattle.std.specs.declared.cmp.Ordering.{Ordering}
-use Rattle.rinv_algebra.specs.Ring.{RingOps, RingLaws, FieldLaws, IsSame}
+use Rattle.rinv_algebra.specs.Ring.{RingOps, RingLaws}
 use Rattle.rinv_algebra.specs.Polynomial.{Polynomial, poly_ops, product}
 use Rattle.rinv_algebra.specs.Leading.{leading_monomial}
 use Rattle.rinv_algebra.proofs.PolynomialLaws.{poly_laws}
-use Rattle.rinv_theory.proofs.CRing.{CRing}
-use Rattle.rinv_theory.proofs.Solver.{ring, reading}
 use Rattle.rinv_theory.proofs.Classes.{Class, class, class_ring, class_sound, class-zero}
 use Rattle.rinv_theory.proofs.Monoid.{Monomial, monomial, monomials}
 use Rattle.rinv_theory.proofs.TermRing.{term-neg}
 use Rattle.rinv_theory.proofs.Polynomials.{polynomials, poly_ring, term_at}
 use Rattle.rinv_theory.proofs.Of.{Of, of-add, of-times, of-weaken}
-use Rattle.rinv_theory.proofs.Places.{front, front-mul}
+use Rattle.rinv_theory.proofs.Places.{front-mul}
 use Rattle.rinv_theory.proofs.Variables.{IsFront}
 use Rattle.rinv_theory.proofs.Leads.{IsUpTo, lead-of, upto-from, mul-upto}
 use Rattle.rinv_groebner.specs.Orders.{OrdersMonomials}
 use Rattle.rinv_groebner.specs.Division.{Step, quotient_at, IsStep}
 use Rattle.rinv_groebner.proofs.Multiples.{Multiples}
-use Rattle.rinv_groebner.proofs.Compared.{all_monomials, InFirst, of_passes, has-coefficient, class_leads}
+use Rattle.rinv_groebner.proofs.Compared.{all_monomials, of_passes, has-coefficient, class_leads}
 use Rattle.rinv_groebner.proofs.ListElements.{AllFirst, Place}
-use Rattle.rinv_groebner.proofs.StepClasses.{negated, step_place, step_divisor, step_element, step-class, multiplier_front}
+use Rattle.rinv_groebner.proofs.StepClasses.{negated, step_place, step_divisor, step-class, multiplier_front}
 use Rattle.rinv_groebner.proofs.StepSums.{restored, multiple, own_place, other_place, class-product_cons}
 use Rattle.rinv_groebner.proofs.Paths.{Path}
 

@@ -3,24 +3,22 @@
 --   path-of, path-multiples    where all monomials of the polynomial pass a test that passes down, so do those of what is left, and what
 --                        was taken away is a sum of multiples that pass it
 --   path-products        and so does each quotient times its element
-use Rattle.std.proofs.Common.{◌≡◌, ◌⊎◌, ℕ, zero, suc, ◌+◌, ◌-◌, ◌<◌, ◌≤◌, Bool, true, false, cond, List, [], ◌∷◌, ◌++◌, length, get_or, map, refl, sym, ◌∙◌, ap, ap₂, subst, inl, inr, arith, IsTrue, true≢false}
-use Rattle.std.specs.Prelude.{◌==◌, if◌then◌else◌}
+use Rattle.std.proofs.Common.{◌≡◌, ℕ, suc, ◌+◌, ◌-◌, ◌<◌, ◌≤◌, true, false, List, [], ◌∷◌, ◌++◌, length, get_or, map, refl, sym, ◌∙◌, ap, ap₂, inl, inr, arith}
+use Rattle.std.specs.Prelude.{◌==◌}
 use Rattle.std.specs.List.{range_with_len}
 use Rattle.std.proofs.lemmas.Bool.{cases_Bool}
 use Rattle.std.proofs.lemmas.Bool.Decides.{nat_tests}
 use Rattle.std.specs.declared.cmp.Ordering.{Ordering}
-use Rattle.rinv_algebra.specs.Ring.{RingOps, RingLaws, FieldLaws, IsSame}
+use Rattle.rinv_algebra.specs.Ring.{RingOps, RingLaws}
 use Rattle.rinv_algebra.specs.Polynomial.{Polynomial, poly_ops, product, term_product}
 use Rattle.rinv_algebra.specs.Ideal.{combination}
-use Rattle.rinv_algebra.specs.Leading.{leading_monomial}
 use Rattle.rinv_algebra.proofs.PolynomialLaws.{poly_laws}
 use Rattle.rinv_theory.proofs.CRing.{CRing}
 use Rattle.rinv_theory.proofs.Solver.{ring, reading}
-use Rattle.rinv_theory.proofs.Classes.{Class, class, class_ring, class_sound, class-add, class-zero}
-use Rattle.rinv_theory.proofs.Monoid.{Monomial, monomial, monomials}
-use Rattle.rinv_theory.proofs.Polynomials.{polynomials, poly_ring, term_at}
-use Rattle.rinv_groebner.specs.Division.{Step, quotient_at, quotients, IsStep}
-use Rattle.rinv_groebner.proofs.Compared.{InFirst}
+use Rattle.rinv_theory.proofs.Classes.{Class, class, class_sound, class-add, class-zero}
+use Rattle.rinv_theory.proofs.Monoid.{monomial}
+use Rattle.rinv_theory.proofs.Polynomials.{poly_ring, term_at}
+use Rattle.rinv_groebner.specs.Division.{Step, quotient_at, quotients}
 use Rattle.rinv_groebner.proofs.StepClasses.{class-term_product, step-class}
 use Rattle.rinv_groebner.proofs.Paths.{Path}
 

@@ -1,33 +1,28 @@
 -- The steps of a division are determined, and with them the rest: by the coefficients of the polynomial and of the list.
 --   step_unique          the next step
 --   division_unique      all steps, and the rest
-use Rattle.std.proofs.Common.{◌≡◌, ◌⊎◌, ℕ, zero, suc, ◌<◌, Bool, true, false, List, [], ◌∷◌, length, get_or, refl, sym, ◌∙◌, ap, ap₂, ◌||◌, subst, inl, inr, arith, IsTrue, true≢false}
+use Rattle.std.proofs.Common.{◌≡◌, ◌⊎◌, ℕ, zero, suc, List, [], ◌∷◌, length, get_or, refl, sym, ◌∙◌, ap, ap₂, ◌||◌, inl, inr, IsTrue, true≢false}
 use Rattle.std.specs.Prelude.{IsFalse}
-use Rattle.std.specs.List.{list_any}
-use Rattle.std.specs.Ordering.{is_ge}
 use Rattle.std.specs.declared.cmp.Ordering.{Ordering}
 use Rattle.std.proofs.lemmas.Bool.{cases_order}
 use Rattle.rinv_algebra.specs.Ring.{RingOps, RingLaws, FieldLaws, IsSame}
-use Rattle.rinv_algebra.specs.Polynomial.{Polynomial, poly_ops, coefficient, has_monomial, is_zero, difference, term_product}
+use Rattle.rinv_algebra.specs.Polynomial.{Polynomial, poly_ops, coefficient, has_monomial, is_zero}
 use Rattle.rinv_algebra.specs.Leading.{leading_monomial, leading_coefficient}
-use Rattle.rinv_algebra.proofs.MonomialLaws.{same_monomial_sym, same_monomial_refl}
+use Rattle.rinv_algebra.proofs.MonomialLaws.{same_monomial_refl}
 use Rattle.rinv_algebra.proofs.PolynomialLaws.{poly_laws}
-use Rattle.rinv_algebra.proofs.Same.{same-coefficients, coefficient-same_monomial}
 use Rattle.rinv_algebra.proofs.Degrees.{has_monomial-same}
 use Rattle.rinv_algebra.proofs.RingFacts as facts
-use Rattle.rinv_theory.proofs.CRing.{CRing, mul_one}
-use Rattle.rinv_theory.proofs.Classes.{Class, class, class_ring, class_sound, class_exact, class-mul}
-use Rattle.rinv_theory.proofs.Monoid.{IsOne, Monomial, monomial, monomials, monomial_sound, monomial_exact}
+use Rattle.rinv_theory.proofs.CRing.{CRing}
+use Rattle.rinv_theory.proofs.Classes.{class, class_ring, class_sound, class_exact, class-mul}
+use Rattle.rinv_theory.proofs.Monoid.{IsOne, monomial, monomials, monomial_exact}
 use Rattle.rinv_theory.proofs.Polynomials.{polynomials, poly_ring, term_at, class-coefficient}
 use Rattle.rinv_groebner.specs.Orders.{OrdersMonomials}
 use Rattle.rinv_groebner.specs.Division.{Step, lead_divides, is_reducible, IsIrreducible, IsNext, IsStep, IsSameStep, AreSameSteps, AreSame, IsDivision}
-use Rattle.rinv_groebner.proofs.Elements.{Elements}
 use Rattle.rinv_groebner.proofs.Greatest.{ge-not_less}
-use Rattle.rinv_groebner.proofs.LeadingMonomials.{has_monomial-same as has_monomial-one}
-use Rattle.rinv_groebner.proofs.Compared.{all_monomials, InFirst, first-same, below_less, has_front}
-use Rattle.rinv_groebner.proofs.ListElements.{AllFirst, Place, list_elements}
-use Rattle.rinv_groebner.proofs.Reducible.{divides-parts, divisor_reducible, lead-same, lead_divides-same, reducible-one}
-use Rattle.rinv_groebner.proofs.StepClasses.{step_place, step_divisor, step-class, step-first}
+use Rattle.rinv_groebner.proofs.Compared.{all_monomials, InFirst, below_less, has_front}
+use Rattle.rinv_groebner.proofs.ListElements.{AllFirst, list_elements}
+use Rattle.rinv_groebner.proofs.Reducible.{divides-parts, divisor_reducible, lead-same, lead_divides-same}
+use Rattle.rinv_groebner.proofs.StepClasses.{step_divisor, step-class, step-first}
 use Rattle.rinv_groebner.proofs.Paths.{Path, steps_path}
 
 -- lists that are the same have the same elements

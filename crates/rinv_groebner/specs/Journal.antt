@@ -1,5 +1,5 @@
 -- Journals of Buchberger's algorithm: what was done with which pair, in turn.
-use Rattle.std.specs.Prelude.{◌≡◌, ℕ, ◌-◌, ◌^◌, ◌<◌, min, Bool, not, List, [], ◌∷◌, ◌++◌, map, filter, length, get_or, IsTrue, IsFalse, Option, Some, None}
+use Rattle.std.specs.Prelude.{◌≡◌, ℕ, ◌-◌, ◌^◌, ◌<◌, min, not, List, [], ◌∷◌, ◌++◌, map, filter, length, get_or, IsTrue, IsFalse, Option, Some, None}
 use Rattle.std.specs.declared.cmp.Ordering.{Ordering}
 use Rattle.rinv_algebra.specs.Ring.{RingOps}
 use Rattle.rinv_algebra.specs.Polynomial.{Polynomial, is_zero}
@@ -48,8 +48,8 @@ module _ {E : Type 0} (o : RingOps E) (cmp : List ℕ → List ℕ → Ordering)
 
   -- what an entry of this kind makes of the list: a rest that is not zero is added at its end
   abbrev pub Makes : List Entry → List (Polynomial E) → ℕ → ℕ → ℕ → Kind → List (Polynomial E) → Type 0
-  Makes journal list i j count (reduced None) made = (made ≡ list) × ((rest : Polynomial E) × LeavesRest list i j count rest × IsTrue (is_zero o rest))
-  Makes journal list i j count (reduced (Some at)) made = (at ≡ length list) × ((rest : Polynomial E) × LeavesRest list i j count rest × IsFalse (is_zero o rest) × (made ≡ list ++ rest ∷ []))
+  Makes journal list i j count (reduced None) made = (made ≡ list) × (rest : Polynomial E) × LeavesRest list i j count rest × IsTrue (is_zero o rest)
+  Makes journal list i j count (reduced (Some at)) made = (at ≡ length list) × (rest : Polynomial E) × LeavesRest list i j count rest × IsFalse (is_zero o rest) × (made ≡ list ++ rest ∷ [])
   Makes journal list i j count coprime made = (made ≡ list) × AreCoprime o cmp list i j × (count ≡ 0)
   Makes journal list i j count (chain by) made = (made ≡ list) × HasChain o cmp list (pairs_of journal) i j by × (count ≡ 0)
 

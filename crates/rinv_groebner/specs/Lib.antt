@@ -4,3 +4,5 @@ pub mod Basis
 pub mod Settled
 pub mod Journal
 pub mod Count
+pub mod Reduced
+pub mod Elimination
