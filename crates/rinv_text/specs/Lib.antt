@@ -3,3 +3,5 @@ pub mod Grammar
 pub mod Formal
 pub mod Reading
 pub mod Stops
+pub mod Images
+pub mod Automaton

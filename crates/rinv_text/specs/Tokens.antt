@@ -54,12 +54,13 @@ sign b =
     else if b == 41 then closing
     else foreign
 
+-- the token of these bytes
+abbrev pub token_of : ℕ → List ℕ → Token
+token_of b bs = if is_digit b then numeral (number_of (b ∷ bs)) else if is_letter b then word (b ∷ bs) else sign b
+
 -- the token that begins with b: as long as it can be
 abbrev pub token_at : ℕ → List ℕ → Token
-token_at b bs =
-    if is_digit b then numeral (number_of (b ∷ take (further_length b bs) bs))
-    else if is_letter b then word (b ∷ take (further_length b bs) bs)
-    else sign b
+token_at b bs = token_of b (take (further_length b bs) bs)
 
 -- the tokens of the bytes after the first `rest`, which belong to the token before; `place` bytes stand before them all
 unfoldable pub tokens_after : (rest place : ℕ) → List ℕ → List Placed

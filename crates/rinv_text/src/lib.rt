@@ -2,5 +2,8 @@
 #![tactic(auto)]
 
 mod fault;
+mod parser;
+mod step;
+mod token;
 
 pub use fault::{TextCode, TextFault, TextStop};
