@@ -4,3 +4,4 @@ pub mod Reached
 pub mod Sound
 pub mod Parses
 pub mod Postfix
+pub mod Malformed
