@@ -5,3 +5,6 @@ pub mod Sound
 pub mod Parses
 pub mod Postfix
 pub mod Malformed
+pub mod Words
+pub mod Unambiguous
+pub mod OneReading
