@@ -8,3 +8,4 @@ pub mod Malformed
 pub mod Words
 pub mod Unambiguous
 pub mod OneReading
+pub mod Tokenwise

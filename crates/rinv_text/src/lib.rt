@@ -7,6 +7,7 @@ mod names;
 mod parser;
 mod step;
 mod token;
+mod tokens;
 
 pub use fault::{TextCode, TextFault, TextStop};
 pub use names::Names;
