@@ -9,3 +9,6 @@ pub mod Words
 pub mod Unambiguous
 pub mod OneReading
 pub mod Tokenwise
+pub mod Prefixes
+pub mod Digits
+pub mod Places
