@@ -12,3 +12,13 @@ pub mod Tokenwise
 pub mod Prefixes
 pub mod Digits
 pub mod Places
+pub mod NamesInTurn
+mod Keys
+mod Absent
+mod MadeNames
+mod WordsInTurn
+pub mod Joined
+mod TermsInTurn
+mod Descending
+mod SortedMonomials
+mod DescendingTerms

@@ -7,3 +7,6 @@ pub mod Stops
 pub mod Images
 pub mod Automaton
 pub mod Evaluation
+pub mod Names
+pub mod Pieces
+pub mod Printed

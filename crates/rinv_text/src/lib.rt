@@ -2,12 +2,17 @@
 #![tactic(auto)]
 
 mod fault;
+mod form;
 pub mod laws;
 mod names;
 mod parser;
+mod polynomial;
 mod step;
+mod terms;
 mod token;
 mod tokens;
 
 pub use fault::{TextCode, TextFault, TextStop};
+pub use form::has_name_form;
 pub use names::Names;
+pub use polynomial::{write_poly, written};

@@ -166,3 +166,31 @@ fn kind(first: u8, bytes: &[u8], names: &Names, field: &Gf) -> Kind
         sign(first)
     }
 }
+
+/// The tokens of a text of fewer than 2^32 - 1 bytes.
+pub fn read_tokens(
+    alloc: Global,
+    bytes: &[u8],
+    names: &Names,
+    field: &Gf,
+) -> Result<Vec<Placed>, NoMemory>
+    requires { length bytes.now < 2 ^ 32 - 1 }
+    ensures { IfOk result (λ v. v.items ≡ map (seen (literal_of field.now) (place_of names.now)) (tokens bytes.now)) }
+{
+    let mut out = Vec::new(alloc);
+    let mut at = 0;
+    'tokens: while at < bytes.len() {
+        let first = bytes[at];
+        if is_blank(first) {
+            at += 1;
+        } else {
+            let end = at + 1 + further_length(first, &bytes[at + 1..]);
+            out.push(Placed {
+                place: at as u32,
+                kind: kind(first, &bytes[at..end], names, field),
+            })?;
+            at = end;
+        }
+    }
+    Ok(out)
+}
