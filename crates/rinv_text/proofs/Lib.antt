@@ -22,3 +22,4 @@ mod TermsInTurn
 mod Descending
 mod SortedMonomials
 mod DescendingTerms
+pub mod Lexing

@@ -10,4 +10,4 @@ pub returns-in-None : goal.returns-in-None
 returns-in-None c =
     c.len-count.ensures.len
     ∙ place-missing c.args.names.now c.args.bytes.now
-        (c.in-None.ensures ∙ ap (λ (w : List ℕ). position (bytes_eq w) c.args.names.now) c.in-Ok.ensures.cases.0)
+    (c.in-None.ensures ∙ ap (λ (w : List ℕ). position (bytes_eq w) c.args.names.now) c.in-Ok.ensures.cases.0)
