@@ -23,3 +23,5 @@ mod Descending
 mod SortedMonomials
 mod DescendingTerms
 pub mod Lexing
+pub mod Caps
+pub mod Stepwise

@@ -7,6 +7,7 @@ pub mod Stops
 pub mod Images
 pub mod Automaton
 pub mod Evaluation
+pub mod Sizes
 pub mod Names
 pub mod Pieces
 pub mod Printed

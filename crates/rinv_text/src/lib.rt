@@ -7,6 +7,7 @@ pub mod laws;
 mod names;
 mod parser;
 mod polynomial;
+mod size;
 mod step;
 mod terms;
 mod token;
