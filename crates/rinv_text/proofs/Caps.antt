@@ -2,7 +2,7 @@
 use Rattle.std.proofs.Common.{◌≡◌, ℕ, zero, suc, ◌+◌, ◌*◌, ◌^◌, ◌<◌, ◌≤◌, min, Bool, nat_lt, refl, sym, ap, ◌∙◌, arith, inl, inr, ◌⊎◌, ltb, add-one}
 use Rattle.std.proofs.lemmas.Bool.{cases_Bool}
 use Rattle.std.proofs.lemmas.Bool.Decides.{nat_tests}
-use Rattle.std.proofs.Math.Nat.{mul-le-mul_left, mul-zero, mul_comm, pow-suc}
+use Rattle.std.proofs.Math.Nat.{mul-le-mul_left, mul-zero, mul_comm, pow-suc, pow-zero}
 
 module _ (m : ℕ) where
   over : (a b : ℕ) → m < a → min (m * suc b) m ≡ min (a * suc b) m
@@ -33,7 +33,7 @@ module _ (m : ℕ) where
 
   -- a power
   pub capped-power : (a k : ℕ) → min (min a m ^ k) m ≡ min (a ^ k) m
-  capped-power a zero = refl
+  capped-power a zero = ap (λ x. min x m) (pow-zero (min a m) ∙ sym (pow-zero a))
   capped-power a (suc k) =
       ap (λ x. min x m) (pow-suc (min a m) k)
       ∙ sym (capped-product (min a m ^ k) (min a m))

@@ -25,3 +25,5 @@ mod DescendingTerms
 pub mod Lexing
 pub mod Caps
 pub mod Stepwise
+pub mod Judged
+pub mod Seen

@@ -8,6 +8,7 @@ pub mod Images
 pub mod Automaton
 pub mod Evaluation
 pub mod Sizes
+pub mod Sightings
 pub mod Names
 pub mod Pieces
 pub mod Printed

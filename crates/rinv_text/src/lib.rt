@@ -4,6 +4,7 @@
 mod fault;
 mod form;
 pub mod laws;
+mod limits;
 mod names;
 mod parser;
 mod polynomial;
