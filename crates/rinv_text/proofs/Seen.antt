@@ -83,21 +83,45 @@ module _ (ts : List Seen) (i : ℕ) where
   split : (d : Seen) → i < length ts → drop i ts ≡ get_or ts i d ∷ drop (i + 1) ts
   split d h = rw (add-one) (drop-cons ts i d h)
 
-  pub unknown-next : (count : ℕ) (d : Seen) (b : Bool) → i < length ts → b ≡ is_unknown_word count (get_or ts i d).kind → first_unknown_word count (drop i ts) ≡ (if b then Some (get_or ts i d).place else first_unknown_word count (drop (i + 1) ts))
+  unknown-next : (count : ℕ) (d : Seen) (b : Bool) → i < length ts → b ≡ is_unknown_word count (get_or ts i d).kind → first_unknown_word count (drop i ts) ≡ (if b then Some (get_or ts i d).place else first_unknown_word count (drop (i + 1) ts))
   unfolding first_unknown_word
   unknown-next count d b h e = ap (λ l. first_unknown_word count l) (split d h) ∙ ap (λ (x : Bool). if x then Some (get_or ts i d).place else first_unknown_word count (drop (i + 1) ts)) (sym e)
+
+  -- a name that is not known
+  pub unknown-here : (count : ℕ) (d : Seen) (b : Bool) → i < length ts → b ≡ is_unknown_word count (get_or ts i d).kind → b ≡ true → first_unknown_word count (drop i ts) ≡ Some (get_or ts i d).place
+  unknown-here count d b h e t = unknown-next count d b h e ∙ ap (λ (x : Bool). if x then Some (get_or ts i d).place else first_unknown_word count (drop (i + 1) ts)) t
+
+  -- any other token
+  pub unknown-on : (count : ℕ) (d : Seen) (b : Bool) → i < length ts → b ≡ is_unknown_word count (get_or ts i d).kind → b ≡ false → first_unknown_word count (drop i ts) ≡ first_unknown_word count (drop (i + 1) ts)
+  unknown-on count d b h e t = unknown-next count d b h e ∙ ap (λ (x : Bool). if x then Some (get_or ts i d).place else first_unknown_word count (drop (i + 1) ts)) t
 
   pub unknown-end : (count : ℕ) → length ts ≤ i → first_unknown_word count (drop i ts) ≡ None
   unfolding first_unknown_word
   unknown-end count h = ap (λ l. first_unknown_word count l) (drop_of_length-le ts h)
 
-  pub exceeds-next : (n m : ℕ) (d : Seen) (b : Bool) → i < length ts → m ≡ nesting_behind n (get_or ts i d).kind → b ≡ is_great_numeral (get_or ts i d).kind → exceeds n (drop i ts) ≡ (b || nat_le (max_nesting + 1) m || exceeds m (drop (i + 1) ts))
+  exceeds-next : (n m : ℕ) (d : Seen) (b : Bool) → i < length ts → m ≡ nesting_behind n (get_or ts i d).kind → b ≡ (is_great_numeral (get_or ts i d).kind || nat_le (max_nesting + 1) m) → exceeds n (drop i ts) ≡ (b || exceeds m (drop (i + 1) ts))
   unfolding exceeds
   exceeds-next n m d b h e f =
       ap (λ l. exceeds n l) (split d h)
-      ∙ ap (λ (x : Bool). x || nat_le (max_nesting + 1) (nesting_behind n (get_or ts i d).kind) || exceeds (nesting_behind n (get_or ts i d).kind) (drop (i + 1) ts)) (sym f)
-      ∙ ap (λ (k : ℕ). b || nat_le (max_nesting + 1) k || exceeds k (drop (i + 1) ts)) (sym e)
+      ∙ ap (λ (k : ℕ). is_great_numeral (get_or ts i d).kind || nat_le (max_nesting + 1) k || exceeds k (drop (i + 1) ts)) (sym e)
+      ∙ ap (λ (x : Bool). x || exceeds m (drop (i + 1) ts)) (sym f)
+
+  -- a token that exceeds a limit
+  pub exceeds-here : (n m : ℕ) (d : Seen) (b : Bool) → i < length ts → m ≡ nesting_behind n (get_or ts i d).kind → b ≡ (is_great_numeral (get_or ts i d).kind || nat_le (max_nesting + 1) m) → b ≡ true → exceeds n (drop i ts) ≡ true
+  exceeds-here n m d b h e f t = exceeds-next n m d b h e f ∙ ap (λ (x : Bool). x || exceeds m (drop (i + 1) ts)) t
+
+  -- one that does not
+  pub exceeds-on : (n m : ℕ) (d : Seen) (b : Bool) → i < length ts → m ≡ nesting_behind n (get_or ts i d).kind → b ≡ (is_great_numeral (get_or ts i d).kind || nat_le (max_nesting + 1) m) → b ≡ false → exceeds n (drop i ts) ≡ exceeds m (drop (i + 1) ts)
+  exceeds-on n m d b h e f t = exceeds-next n m d b h e f ∙ ap (λ (x : Bool). x || exceeds m (drop (i + 1) ts)) t
 
   pub exceeds-end : (n : ℕ) → length ts ≤ i → exceeds n (drop i ts) ≡ false
   unfolding exceeds
   exceeds-end n h = ap (λ l. exceeds n l) (drop_of_length-le ts h)
+
+-- after a token that exceeds no limit
+pub nesting-within : (m : ℕ) (g b : Bool) → b ≡ (g || nat_le (max_nesting + 1) m) → b ≡ false → m ≤ 100
+nesting-within m true b f t = let clash : true ≡ false = sym f ∙ t in cc
+nesting-within m false b f t = within (sym f ∙ t)
+  where
+    within : nat_le (max_nesting + 1) m ≡ false → m ≤ 100
+    within h = grind (arith, nat_tests)
