@@ -27,3 +27,5 @@ pub mod Caps
 pub mod Stepwise
 pub mod Judged
 pub mod Seen
+pub mod RingProducts
+pub mod Constants

@@ -9,6 +9,7 @@ pub mod Automaton
 pub mod Evaluation
 pub mod Sizes
 pub mod Sightings
+pub mod Values
 pub mod Names
 pub mod Pieces
 pub mod Printed

@@ -7,6 +7,7 @@ pub mod laws;
 mod limits;
 mod names;
 mod parser;
+mod partial;
 mod polynomial;
 mod size;
 mod step;
