@@ -2,6 +2,7 @@
 use Rattle.std.proofs.Common.{◌≡◌, ℕ, suc, ◌+◌, ◌-◌, ◌*◌, ◌%◌, ◌<◌, List, [], ◌∷◌, ◌++◌, map, length, refl, sym, ap, subst, ◌∙◌, IsTrue, true, arith}
 use Rattle.std.proofs.Math.Nat.{mod-mod}
 use Rattle.std.proofs.lemmas.List.{append-nil}
+use Rattle.std.proofs.lemmas.List.Sums.{sum_by-cons}
 use Rattle.rinv_algebra.specs.Ring.{RingOps, RingLaws, IsSame}
 use Rattle.rinv_algebra.specs.Residue.{is_listed, modulus_of, residue_ops}
 use Rattle.rinv_algebra.specs.Monomial.{same_monomial, monomial_product, total_degree}
@@ -56,7 +57,11 @@ module _ (p : ℕ) (listed : IsTrue (is_listed p)) where
 zero-monomial : (m : List ℕ) → total_degree m ≡ 0 → same_monomial m [] ≡ true
 unfolding same_monomial
 zero-monomial [] e = refl
-zero-monomial (x ∷ m) e = ?
+zero-monomial (x ∷ m) e =
+    let split : total_degree (x ∷ m) ≡ x + total_degree m = sum_by-cons (λ (n : ℕ). n) x m in
+    let first : x ≡ 0 = omega arith in
+    let rest : total_degree m ≡ 0 = omega arith in
+    rw first (zero-monomial m rest)
 
 pub constant-term : (o : RingOps ℕ) (l : RingLaws o) (m : List ℕ) (c : ℕ) → total_degree m ≡ 0 → IsSame (poly_ops o) ((m, c) ∷ []) (constant o c)
 constant-term o l m c e = term-same_monomial o l m [] c (zero-monomial m e)

@@ -29,3 +29,6 @@ pub mod Judged
 pub mod Seen
 pub mod RingProducts
 pub mod Constants
+pub mod Low
+pub mod Standing
+pub mod Numbers
