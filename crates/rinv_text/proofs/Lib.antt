@@ -32,3 +32,4 @@ pub mod Constants
 pub mod Low
 pub mod Standing
 pub mod Numbers
+pub mod Powers

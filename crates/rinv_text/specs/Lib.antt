@@ -10,6 +10,7 @@ pub mod Evaluation
 pub mod Sizes
 pub mod Sightings
 pub mod Values
+pub mod Meanings
 pub mod Names
 pub mod Pieces
 pub mod Printed

@@ -14,6 +14,7 @@ mod step;
 mod terms;
 mod token;
 mod tokens;
+mod value;
 
 pub use fault::{TextCode, TextFault, TextStop};
 pub use form::has_name_form;
