@@ -33,3 +33,4 @@ pub mod Low
 pub mod Standing
 pub mod Numbers
 pub mod Powers
+pub mod Piles
