@@ -34,3 +34,4 @@ pub mod Standing
 pub mod Numbers
 pub mod Powers
 pub mod Piles
+pub mod Read

@@ -7,7 +7,7 @@ use Rattle.rinv_algebra.specs.Polynomial.{product}
 use Rattle.rinv_poly.specs.Sums.{sum_of}
 use Rattle.rinv_text.specs.Reading.{to_the}
 use Rattle.rinv_text.specs.declared.partial.Partial.{Partial}
-use Rattle.rinv_text.specs.Evaluation.{on_one, on_two, onto}
+use Rattle.rinv_text.specs.Evaluation.{on_one, on_two, onto, top}
 use Rattle.rinv_text.specs.Values.{Stands, IsPartial, IsNormalOver, IsLow, MayMultiply}
 use Rattle.rinv_text.specs.Meanings.{Meaning, meanings, Piled}
 
@@ -110,3 +110,20 @@ module _ (p v : ℕ) where
     where
       within : (n : ℕ) → nat_le n 64 ≡ true → n ≤ max_degree
       within n h = grind (arith, nat_tests)
+
+  -- ---- the whole
+
+  pub whole-there : (xs : List Partial) (gs : List Meaning) (g : Meaning) → Piled p v xs gs → top gs ≡ Some g → (x : Partial) × (rest : List Partial) × (xs ≡ x ∷ rest)
+  whole-there xs [] g pile e = cc
+  whole-there [] (h ∷ gs) g pile e = elim pile [ ]
+  whole-there (x ∷ xs) (h ∷ gs) g pile e = (x, xs, refl)
+
+  pub whole-stands : (xs rest : List Partial) (x : Partial) (gs : List Meaning) (g : Meaning) → x ∷ rest ≡ xs → Piled p v xs gs → top gs ≡ Some g → StandsFor x g
+  whole-stands xs rest x [] g same pile e = cc
+  whole-stands xs rest x (h ∷ gs) g same pile e =
+      let piled : Piled p v (x ∷ rest) (h ∷ gs) = subst (λ l. Piled p v l (h ∷ gs)) (sym same) pile in
+      let one : h ≡ g = cc in
+      along x h g one piled.0
+
+  pub whole-partial : (xs rest : List Partial) (x : Partial) (gs : List Meaning) (g : Meaning) → x ∷ rest ≡ xs → Piled p v xs gs → top gs ≡ Some g → IsPartial p v x
+  whole-partial xs rest x gs g same pile e = partial-of x g (whole-stands xs rest x gs g same pile e)

@@ -12,7 +12,7 @@ use Rattle.rinv_text.specs.Images.{literal_of, kind_of, seen}
 use Rattle.rinv_text.specs.Sightings.{is_unknown_word, first_unknown_word, is_great_numeral, nesting_behind, exceeds}
 
 -- a name has a place among the names where it is one of them
-place-known : (names : List (List ℕ)) (w : List ℕ) → nat_le (length names) (place_of names w) ≡ not (list_any (bytes_eq w) names)
+pub place-known : (names : List (List ℕ)) (w : List ℕ) → nat_le (length names) (place_of names w) ≡ not (list_any (bytes_eq w) names)
 place-known [] w = refl
 place-known (v ∷ names) w = at (bytes_eq w v) (place-known names w)
   where

@@ -24,6 +24,14 @@ module _ {A : Type 0} (a : Algebra A) (ss : List Step) (i : ℕ) (xs : List A) (
   pub outcome-none : (d : Step) → i < length ss → None ≡ step a (get_or ss i d) xs → None ≡ outcome a ss
   outcome-none d h e = sym (ap (λ (o : Option (List A)). option_and_then top o) (so_far ∙ evaluate-next a ss i xs d h None (sym e)))
 
+  -- where the whole gives a value, so does the step
+  pub step-some : (d : Step) (g : A) → i < length ss → outcome a ss ≡ Some g → (ys : List A) × (step a (get_or ss i d) xs ≡ Some ys)
+  step-some d g h e = at (step a (get_or ss i d) xs) refl
+    where
+      at : (o : Option (List A)) → step a (get_or ss i d) xs ≡ o → (ys : List A) × (step a (get_or ss i d) xs ≡ Some ys)
+      at None f = let clash : None ≡ Some g = outcome-none d h (sym f) ∙ e in cc
+      at (Some ys) f = (ys, f)
+
   -- a step that gives a stack
   pub evaluate-on : (d : Step) (ys : List A) → i < length ss → Some ys ≡ step a (get_or ss i d) xs → evaluate a ss [] ≡ evaluate a (drop (i + 1) ss) ys
   evaluate-on d ys h e = so_far ∙ evaluate-next a ss i xs d h (Some ys) (sym e)
