@@ -35,3 +35,4 @@ pub mod Numbers
 pub mod Powers
 pub mod Piles
 pub mod Read
+pub mod Denoted
