@@ -4,14 +4,25 @@
 mod fault;
 mod form;
 mod fraction;
+pub mod laws;
+mod limits;
 mod names;
+mod parser;
+mod partial;
 mod polynomial;
+mod reading;
+mod size;
+mod step;
 mod terms;
 #[cfg(test)]
 mod tests;
+mod token;
+mod tokens;
+mod value;
 
 pub use fault::{TextCode, TextFault, TextStop};
 pub use form::has_name_form;
 pub use fraction::write_fraction;
 pub use names::Names;
 pub use polynomial::{write_poly, written};
+pub use reading::read_poly;

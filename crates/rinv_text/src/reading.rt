@@ -1,0 +1,104 @@
+//! From a text to the polynomial that it denotes, or to its first fault.
+
+ghost use Rattle.std.specs.Prelude.{◌≡◌, ◌<◌, ◌-◌, ◌^◌, length, IfOk, IfErr, nat_lt};
+ghost use Rattle.rinv_algebra.specs.Residue.{residue_ops};
+ghost use Rattle.rinv_algebra.specs.Normal.{IsNormal};
+ghost use Rattle.rinv_text.specs.Faults.{OnFault};
+ghost use Rattle.rinv_text.specs.Sightings.{first_place, excess_of, fault_of};
+ghost use Rattle.rinv_text.specs.Stops.{Denotes, IsRefused};
+
+use crate::fault::{TextCode, TextFault, TextStop};
+use crate::limits::{first_unknown, is_past_limit};
+use crate::names::Names;
+use crate::parser::parse;
+use crate::size::size_of;
+use crate::step::Step;
+use crate::token::Placed;
+use crate::tokens::read_tokens;
+use crate::value::value_of;
+use rinv_poly::{KPoly, PolyRing};
+use rinv_ring::Gf;
+use std::alloc::{AllocError as NoMemory, Global};
+
+// The place of the first token.
+fn start(tokens: &[Placed]) -> u32
+    ensures { result ≡ first_place tokens.now }
+{
+    match tokens.first() {
+        Some(token) => token.place,
+        None => 0,
+    }
+}
+
+// What is too great in the expression.
+fn excess(
+    alloc: Global,
+    tokens: &[Placed],
+    steps: &[Step],
+) -> Result<Option<TextCode>, NoMemory>
+    ensures { IfOk result (λ o. o ≡ excess_of tokens.now steps.now) }
+{
+    if is_past_limit(tokens) {
+        return Ok(Some(TextCode::Limit));
+    }
+    match size_of(alloc, steps)? {
+        None => Ok(Some(TextCode::FormalDegree)),
+        Some(size) => {
+            if size.is_long {
+                Ok(Some(TextCode::FormalTerms))
+            } else {
+                Ok(None)
+            }
+        }
+    }
+}
+
+// The first refusal of the expression, where there are `count` names.
+fn refusal(
+    alloc: Global,
+    count: u32,
+    tokens: &[Placed],
+    steps: &[Step],
+) -> Result<Option<TextFault>, NoMemory>
+    ensures { IfOk result (λ o. o ≡ fault_of count tokens.now steps.now) }
+{
+    if let Some(place) = first_unknown(count, tokens) {
+        return Ok(Some(TextFault {
+            place,
+            code: TextCode::Name,
+        }));
+    }
+    let Some(code) = excess(alloc, tokens, steps)? else {
+        return Ok(None);
+    };
+    let place = start(tokens);
+    Ok(Some(TextFault { place, code }))
+}
+
+/// The polynomial over the field that the text denotes, in the variables with these names; or the first fault of the text: it is no
+/// expression; a name in it is not known; a number is 2^128 or more, or parentheses stand more than 100 deep; an exponent or a formal
+/// degree is over 64; a part has more than 1,000,000 formal terms. The place is a number of bytes from the start of the text: that of
+/// the first token that no expression has there, of the name, or of the first token.
+pub fn read_poly(
+    alloc: Global,
+    text: &str,
+    names: &Names,
+    field: &Gf,
+) -> Result<KPoly, TextStop>
+    requires { length text.now < 2 ^ 32 - 1 }
+    ensures normal { IfOk result (IsNormal (residue_ops field.now) (λ c. nat_lt c field.now) (length names.now)) }
+    ensures value { IfOk result (Denotes field.now names.now text.now) }
+    ensures fault { IfErr result (OnFault (IsRefused names.now text.now)) }
+{
+    let _p = field.modulus();
+    let bytes = text.as_bytes();
+    let count = names.len();
+    let tokens = read_tokens(alloc, bytes, names, field)?;
+    let steps = parse(alloc, &tokens, bytes.len() as u32)?;
+    if let Some(fault) = refusal(alloc, count, &tokens, &steps)? {
+        return Err(TextStop::Fault(fault));
+    }
+    let ring = PolyRing::new(*field, count);
+    let polynomial = value_of(alloc, &steps, &ring)?;
+    Ok(polynomial)
+}
