@@ -16,7 +16,7 @@ use Rattle.rinv_poly.proofs.NormalFacts.{has-term}
 
 module _ {E : Type 0} (o : RingOps E) (l : RingLaws o) where
   -- a term with this monomial, or there is none
-  searched : (m : List ℕ) (g : Polynomial E) → ((k : ℕ) × (k < length g) × ((d : Term E) → same_monomial (get_or g k d).0 m ≡ true)) ⊎ IsAbsent m g
+  pub searched : (m : List ℕ) (g : Polynomial E) → ((k : ℕ) × (k < length g) × ((d : Term E) → same_monomial (get_or g k d).0 m ≡ true)) ⊎ IsAbsent m g
   searched m [] = inr tt
   searched m (t ∷ g) = elim (cases_Bool (same_monomial t.0 m)) [
     | inl here ↦ inl (0, omega arith, λ d. here)
@@ -24,7 +24,7 @@ module _ {E : Type 0} (o : RingOps E) (l : RingLaws o) where
   ]
 
   -- a bound of the degrees of all terms is one of the degree
-  degree-terms : (f : Polynomial E) (n : ℕ) → All (λ t. total_degree t.0 ≤ n) f → degree o f ≤ n
+  pub degree-terms : (f : Polynomial E) (n : ℕ) → All (λ t. total_degree t.0 ≤ n) f → degree o f ≤ n
   degree-terms f n all = degree-bound o l f n (λ m has. elim (searched m f) [
     | inl there ↦
         let d : Term E = (m, o.zero) in

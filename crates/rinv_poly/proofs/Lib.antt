@@ -14,5 +14,11 @@ pub mod Summands
 pub mod Unique
 pub mod Merging
 pub mod Scaling
+pub mod Moving
+pub mod Cancelling
+pub mod Heights
+pub mod DistinctTerms
+pub mod Dividing
 pub mod Past
 pub mod Residues
+pub mod Greatest

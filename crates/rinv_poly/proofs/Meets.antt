@@ -1,6 +1,6 @@
 -- Degrees that one operation may answer, for another that calls it.
 use Rattle.std.proofs.Common.{◌≡◌, ℕ, zero, suc, ◌+◌, ◌<◌, ◌⊎◌, inl, inr, [], ◌∷◌, length, get_or, refl, sym, arith, subst}
-use Rattle.std.specs.Prelude.{Contains}
+use Rattle.std.specs.Prelude.{Contains, Option, Some, IfSome}
 use Rattle.rinv_algebra.specs.Monomial.{total_degree, max_degree}
 use Rattle.rinv_algebra.specs.Polynomial.{Term, Polynomial}
 use Rattle.rinv_ring.specs.declared.fault.RingFault.{RingFault}
@@ -8,6 +8,10 @@ use Rattle.rinv_ring.specs.declared.fault.RingFault.TheVariants.{Degree, NoMemor
 use Rattle.rinv_ring.specs.Fault.{DegreesMeet}
 use Rattle.rinv_ring.specs.Operation.{RingOp}
 use Rattle.rinv_poly.specs.Faults.{TermsMeet, CoefficientsMeet}
+
+-- what holds of a value that is there
+pub at_some : {A : Type 0} (P : A → Type 0) (o : Option A) (x : A) → o ≡ Some x → IfSome o P → P x
+at_some P o x e h = subst (λ r. IfSome r P) e h
 
 pub meet-weaker : (P Q : ℕ → ℕ → Type 0) → ((x y : ℕ) → P x y → Q x y) → (e : RingFault) → DegreesMeet P e → DegreesMeet Q e
 meet-weaker P Q h (Degree x y) m = h x y m

@@ -40,3 +40,7 @@ polynomials_meet o too_high adds f g x y = CoefficientsMeet too_high adds x y
 polynomials_meet o too_high subtracts f g x y = CoefficientsMeet too_high subtracts x y
 polynomials_meet o too_high multiplies f g x y = MonomialsMeet o f g x y ⊎ (CoefficientsMeet too_high multiplies x y ⊎ CoefficientsMeet too_high adds x y)
 polynomials_meet o too_high compares f g x y = CoefficientsMeet too_high compares x y
+
+-- some operation on two coefficients may answer these degrees
+abbrev pub OperationsMeet : {E : Type 0} → (RingOp → E → E → ℕ → ℕ → Type 0) → ℕ → ℕ → Type 0
+OperationsMeet too_high x y = (op : RingOp) × CoefficientsMeet too_high op x y

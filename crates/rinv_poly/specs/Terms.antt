@@ -1,11 +1,12 @@
 -- Lists of terms, as calls take them and work on them.
-use Rattle.std.specs.Prelude.{[], ◌∷◌, ◌++◌, if◌then◌else◌, ◌≡◌, ℕ, length, take, All, ◌≤◌, ◌+◌, IsTrue, Bool, List}
+use Rattle.std.specs.Prelude.{[], ◌∷◌, ◌++◌, if◌then◌else◌, ◌≡◌, ℕ, length, take, map, All, ◌≤◌, ◌+◌, IsTrue, Bool, List}
 use Rattle.std.specs.Ordering.{is_lt}
 use Rattle.std.specs.declared.cmp.Ordering.{Ordering}
 use Rattle.std.specs.declared.cmp.Ordering.TheVariants.{Less, Greater}
+use Rattle.std.specs.List.{IsDistinct}
 use Rattle.std.specs.List.Sorted.{IsSortedBy}
 use Rattle.rinv_algebra.specs.Ring.{RingOps, IsSame}
-use Rattle.rinv_algebra.specs.Monomial.{total_degree, max_degree}
+use Rattle.rinv_algebra.specs.Monomial.{same_monomial, total_degree, max_degree}
 use Rattle.rinv_algebra.specs.Order.{lex}
 use Rattle.rinv_algebra.specs.Polynomial.{Term, Polynomial}
 
@@ -17,6 +18,10 @@ pub record IsTerm {E : Type 0} (is_element : E → Bool) (v : ℕ) (t : Term E) 
 -- no monomial is above a later one
 abbrev pub IsAscending : {E : Type 0} → Polynomial E → Type 0
 IsAscending f = IsSortedBy (λ s t. is_lt (lex s.0 t.0)) f
+
+-- no two terms have one monomial
+abbrev pub AreDistinct : {E : Type 0} → Polynomial E → Type 0
+AreDistinct f = IsDistinct same_monomial (map (λ t. t.0) f)
 
 -- f is the first terms of g
 abbrev pub IsPrefixOf : {E : Type 0} → Polynomial E → Polynomial E → Type 0
@@ -42,3 +47,17 @@ pub record IsPushed {E : Type 0} (o : RingOps E) (is_element : E → Bool) (f g 
   pub element : IsTrue (is_element coefficient)
   pub value : IsSame o coefficient c
   pub items : g ≡ with_term o f (m, coefficient)
+
+-- the last term of f is gone from f', and is the last of g'
+pub record IsMoved {E : Type 0} (f f' g g' : Polynomial E) : Type 0 where
+  pub term : Term E
+  pub taken : f ≡ f' ++ term ∷ []
+  pub put : g' ≡ g ++ term ∷ []
+
+-- the last terms of f and g are gone from f' and g', and h' has their sum, unless that is zero
+pub record IsJoined {E : Type 0} (o : RingOps E) (is_element : E → Bool) (f f' g g' h h' : Polynomial E) : Type 0 where
+  pub left : Term E
+  pub right : Term E
+  pub taken_left : f ≡ f' ++ left ∷ []
+  pub taken_right : g ≡ g' ++ right ∷ []
+  pub put : IsPushed o is_element h h' left.0 (o.add left.1 right.1)

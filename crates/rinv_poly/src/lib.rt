@@ -1,9 +1,13 @@
 //! Polynomials over any ring.
 #![tactic(auto)]
 
+mod cancellation;
 mod collect;
 mod compare;
+mod distinct;
+mod division;
 pub mod laws;
+mod leads;
 mod limit;
 mod merge;
 mod polynomial;

@@ -135,7 +135,7 @@ fn push_sum<R: Ring>(
 }
 
 // The coefficient with the sign.
-fn with_sign<R: Ring>(
+pub fn with_sign<R: Ring>(
     coeffs: &R,
     alloc: Global,
     sign: Sign,

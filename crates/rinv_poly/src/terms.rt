@@ -49,27 +49,27 @@ pub fn scaled<R: Ring>(
 {
     let mut out = Vec::with_capacity(alloc, terms.len())?;
     for (mono, d) in terms {
-        push_multiple(coeffs, alloc, c, mono, d, &mut out)?;
+        push_multiple(coeffs, alloc, c, mono.copy(alloc)?, d, &mut out)?;
     }
     Ok(out)
 }
 
 // Appends the element times the term.
-fn push_multiple<R: Ring>(
+pub fn push_multiple<R: Ring>(
     coeffs: &R,
     alloc: Global,
     c: &R::Elem,
-    mono: &Mono,
+    mono: Mono,
     d: &R::Elem,
     out: &mut Vec<(Mono, R::Elem)>,
 ) -> Result<(), RingFault>
     requires left { IsTrue (R.is_element coeffs.now c.now) }
     requires right { IsTrue (R.is_element coeffs.now d.now) }
-    ensures value { OnOk result (IsPushed (R.ops coeffs.now) (R.is_element coeffs.now) out.old.items out.new.items mono.now ((R.ops coeffs.now).mul c.now d.now)) }
+    ensures value { OnOk result (IsPushed (R.ops coeffs.now) (R.is_element coeffs.now) out.old.items out.new.items mono ((R.ops coeffs.now).mul c.now d.now)) }
     ensures degree { IfErr result (DegreesMeet (CoefficientsMeet (R.too_high coeffs.now) multiplies)) }
 {
     let multiple = coeffs.mul(alloc, c, d)?;
-    push_term(coeffs, mono.copy(alloc)?, multiple, out)?;
+    push_term(coeffs, mono, multiple, out)?;
     Ok(())
 }
 

@@ -1,9 +1,11 @@
 //! The numbers modulo one of six primes, in machine words.
 
-ghost use Rattle.std.specs.Prelude.{◌≡◌, ◌<◌, ◌≤◌, ◌+◌, ◌*◌, ◌-◌, ◌%◌, ◌↔◌, ℕ, IsTrue, IsOk, IfOk, IsErrOf, IsNone, IfSome, nat_lt};
+ghost use Rattle.std.specs.Prelude.{◌≡◌, ◌<◌, ◌≤◌, ◌+◌, ◌*◌, ◌-◌, ◌%◌, ◌↔◌, ℕ, IsTrue, IsOk, IfOk, IfErr, IsErrOf, IsNone, IfSome, nat_lt};
+ghost use Rattle.rinv_algebra.specs.Ring.{IsSame};
 ghost use Rattle.rinv_algebra.specs.Residue.{is_listed, residue_ops};
 ghost use Rattle.rinv_algebra.proofs.ResidueLaws.{residue_laws};
 ghost use Rattle.rinv_algebra.proofs.ResidueField.{residue_field_laws};
+ghost use Rattle.rinv_ring.specs.Fault.{DegreesMeet};
 
 use crate::fault::RingFault;
 use crate::rings::{Field, Ring};
@@ -147,27 +149,56 @@ impl Ring for Gf {
 
     ghost laws = { residue_laws };
 
-    fn zero(&self, _alloc: Global) -> Result<u32, NoMemory> {
+    fn zero(&self, _alloc: Global) -> Result<u32, NoMemory>
+        ensures ok { IsOk result }
+        ensures element { IfOk result (λ r. IsTrue (nat_lt r self.now)) }
+        ensures value { IfOk result (λ r. IsSame (residue_ops self.now) r (residue_ops self.now).zero) }
+    {
         let _p = self.modulus();
         Ok(0)
     }
 
-    fn one(&self, _alloc: Global) -> Result<u32, NoMemory> {
+    fn one(&self, _alloc: Global) -> Result<u32, NoMemory>
+        ensures ok { IsOk result }
+        ensures element { IfOk result (λ r. IsTrue (nat_lt r self.now)) }
+        ensures value { IfOk result (λ r. IsSame (residue_ops self.now) r (residue_ops self.now).one) }
+    {
         let _p = self.modulus();
         Ok(1)
     }
 
-    fn add(&self, _alloc: Global, a: &u32, b: &u32) -> Result<u32, RingFault> {
+    fn add(&self, _alloc: Global, a: &u32, b: &u32) -> Result<u32, RingFault>
+        requires left { IsTrue (nat_lt a.now self.now) }
+        requires right { IsTrue (nat_lt b.now self.now) }
+        ensures ok { IsOk result }
+        ensures element { IfOk result (λ r. IsTrue (nat_lt r self.now)) }
+        ensures value { IfOk result (λ r. IsSame (residue_ops self.now) r ((residue_ops self.now).add a.now b.now)) }
+        ensures degree { IfErr result (DegreesMeet (λ _ _. ⊥)) }
+    {
         let _p = self.modulus();
         Ok(self.add(*a, *b))
     }
 
-    fn sub(&self, _alloc: Global, a: &u32, b: &u32) -> Result<u32, RingFault> {
+    fn sub(&self, _alloc: Global, a: &u32, b: &u32) -> Result<u32, RingFault>
+        requires left { IsTrue (nat_lt a.now self.now) }
+        requires right { IsTrue (nat_lt b.now self.now) }
+        ensures ok { IsOk result }
+        ensures element { IfOk result (λ r. IsTrue (nat_lt r self.now)) }
+        ensures value { IfOk result (λ r. IsSame (residue_ops self.now) r ((residue_ops self.now).add a.now ((residue_ops self.now).neg b.now))) }
+        ensures degree { IfErr result (DegreesMeet (λ _ _. ⊥)) }
+    {
         let _p = self.modulus();
         Ok(self.sub(*a, *b))
     }
 
-    fn mul(&self, _alloc: Global, a: &u32, b: &u32) -> Result<u32, RingFault> {
+    fn mul(&self, _alloc: Global, a: &u32, b: &u32) -> Result<u32, RingFault>
+        requires left { IsTrue (nat_lt a.now self.now) }
+        requires right { IsTrue (nat_lt b.now self.now) }
+        ensures ok { IsOk result }
+        ensures element { IfOk result (λ r. IsTrue (nat_lt r self.now)) }
+        ensures value { IfOk result (λ r. IsSame (residue_ops self.now) r ((residue_ops self.now).mul a.now b.now)) }
+        ensures degree { IfErr result (DegreesMeet (λ _ _. ⊥)) }
+    {
         let _p = self.modulus();
         Ok(self.mul(*a, *b))
     }
@@ -177,18 +208,33 @@ impl Ring for Gf {
         *a == 0
     }
 
-    fn same(&self, _alloc: Global, a: &u32, b: &u32) -> Result<bool, RingFault> {
+    fn same(&self, _alloc: Global, a: &u32, b: &u32) -> Result<bool, RingFault>
+        requires left { IsTrue (nat_lt a.now self.now) }
+        requires right { IsTrue (nat_lt b.now self.now) }
+        ensures ok { IsOk result }
+        ensures value { IfOk result (λ r. r ≡ (residue_ops self.now).same a.now b.now) }
+        ensures degree { IfErr result (DegreesMeet (λ _ _. ⊥)) }
+    {
         let _p = self.modulus();
         Ok(*a == *b)
     }
 
-    fn copy(&self, _alloc: Global, a: &u32) -> Result<u32, NoMemory> {
+    fn copy(&self, _alloc: Global, a: &u32) -> Result<u32, NoMemory>
+        requires { IsTrue (nat_lt a.now self.now) }
+        ensures { result ≡ Ok a.now }
+    {
         Ok(*a)
     }
 }
 
 impl Field for Gf {
-    fn inverse(&self, _alloc: Global, a: &u32) -> Result<Option<u32>, NoMemory> {
+    fn inverse(&self, _alloc: Global, a: &u32) -> Result<Option<u32>, NoMemory>
+        requires { IsTrue (nat_lt a.now self.now) }
+        ensures ok { IsOk result }
+        ensures none { IfOk result (λ o. IsNone o ↔ IsSame (residue_ops self.now) a.now (residue_ops self.now).zero) }
+        ensures element { IfOk result (λ o. IfSome o (λ b. IsTrue (nat_lt b self.now))) }
+        ensures value { IfOk result (λ o. IfSome o (λ b. IsSame (residue_ops self.now) ((residue_ops self.now).mul a.now b) (residue_ops self.now).one)) }
+    {
         let _p = self.modulus();
         Ok(self.inverse(*a))
     }

@@ -2,3 +2,6 @@ pub mod Refused
 pub mod Factors
 pub mod Sums
 pub mod Padded
+pub mod Placed
+pub mod Renamed
+pub mod PlacedTerms

@@ -3,10 +3,12 @@
 
 mod combinations;
 mod powers;
+mod renaming;
 mod substitution;
 mod widened_polynomials;
 
 pub use combinations::combination;
+pub use renaming::rename;
 pub use substitution::substitute;
 pub use widened_polynomials::widened;
 

@@ -1,15 +1,15 @@
 -- A field of fractions of an honest ring, by what one needs to know of it; and polynomials over it without denominators.
 --   IsFractions 𝓓 𝓕      each element of 𝓕 is a quotient of elements of 𝓓, which are in it
 --   fractions            the classes of fractions are a field of fractions
---   polynomial_fractions the same of fractions of polynomials over a field
+--   polynomial_fractions the same of fractions of polynomials over a field; -into: a polynomial there is it over 1
 --   Cleared              a multiple of a polynomial by an element of 𝓓, written without denominators
 --   clear                each polynomial has such a multiple, with the same monomials
 --   constant_cancels     a factor from 𝓓 that is not zero cancels
 use Rattle.std.proofs.Common.{◌≡◌, [], ◌∷◌, refl, sym, ◌∙◌, ap, ap₂, subst}
 use mathlib.Core.Logic.{∥∥₁_prop, ∥∥₁_elim, ∥∥₁_map}
 use Rattle.rinv_algebra.specs.Ring.{RingOps, RingLaws, FieldLaws}
-use Rattle.rinv_algebra.specs.Polynomial.{poly_ops}
-use Rattle.rinv_algebra.specs.Fraction.{fraction_ops}
+use Rattle.rinv_algebra.specs.Polynomial.{Polynomial, poly_ops}
+use Rattle.rinv_algebra.specs.Fraction.{fraction_ops, over_one as over_one_of}
 use Rattle.rinv_algebra.proofs.PolynomialLaws.{poly_laws}
 use Rattle.rinv_theory.proofs.CRing.{CRing, Hom, hom-zero, mul_zero}
 use Rattle.rinv_theory.proofs.Solver.{ring, reading}
@@ -62,6 +62,11 @@ module _ {D : Type 0} (q : RingOps D) (l : RingLaws q) (domain : IsDomain (class
 -- the classes of fractions of polynomials over a field, over the polynomials
 pub polynomial_fractions : {E : Type 0} (o : RingOps E) (l : RingLaws o) (f : FieldLaws o) → IsFractions (poly_ring o l) (class_ring (fraction_ops o) (fraction_laws o l f))
 polynomial_fractions o l f = fractions (poly_ops o) (poly_laws o l) (poly_domain o l f)
+
+-- a polynomial among the fractions: over 1
+pub polynomial_fractions-into : {E : Type 0} (o : RingOps E) (l : RingLaws o) (f : FieldLaws o) (x : Polynomial E) → (polynomial_fractions o l f).into.at (class (poly_ops o) x) ≡ class (fraction_ops o) (over_one_of o x)
+unfolding polynomial_fractions fractions
+polynomial_fractions-into o l f x = over_one-class (poly_ops o) (poly_laws o l) (poly_domain o l f) x
 
 module _ {D F M S V : Type 0} {𝓓 : CRing D} {𝓕 : CRing F} {𝓜 : Monoid M} (domain : IsDomain 𝓓) (fr : IsFractions 𝓓 𝓕) (𝓢 : TermRing 𝓓 𝓜 S) (𝓥 : TermRing 𝓕 𝓜 V) where
   open 𝓥.ring use {add as ◌+◌, mul as ◌*◌, zero as 𝟘}

@@ -24,5 +24,7 @@ pub mod WellOrders
 pub mod Domain
 pub mod FractionLaws
 pub mod Fields
+pub mod ProductLeads
 pub mod Fractions
 pub mod Examples
+pub mod Search

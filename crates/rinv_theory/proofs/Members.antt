@@ -1,6 +1,7 @@
 -- Members of an ideal by lists of cofactors, as contracts have them, and members in the honest ring, are one thing.
 --   generator o fs k     the class of the polynomial at a place of a list, and zero past its end
 --   member-in            who has a list of cofactors is a member
+--   member_none, member_more    zero, and a multiple of a generator more
 --   in-member            a member has a list of cofactors
 --   member-substitute    the image of a member, by the images of its cofactors
 use Rattle.std.proofs.Common.{◌≡◌, ℕ, zero, suc, List, [], ◌∷◌, ◌++◌, length, map, replicate, get_or, refl, sym, ◌∙◌, ap, ap₂, subst, arith}
@@ -42,13 +43,14 @@ module _ {E : Type 0} (o : RingOps E) (l : RingLaws o) where
   abbrev pub generator : List (Polynomial E) → ℕ → Class (poly_ops o)
   generator fs k = class (poly_ops o) (get_or fs k [])
 
-  abbrev poly : Polynomial E → Class (poly_ops o)
+  abbrev pub poly : Polynomial E → Class (poly_ops o)
   poly f = class (poly_ops o) f
 
   behind : (f : Polynomial E) (fs : List (Polynomial E)) {x : Class (poly_ops o)} → In (poly_ring o l) (generator fs) x → In (poly_ring o l) (generator (f ∷ fs)) x
   behind f fs r = in-in (poly_ring o l) (generator (f ∷ fs)) (generator fs) (λ k. in_one (poly_ring o l) (generator (f ∷ fs)) (suc k)) r
 
-  combination-cons : (u f : Polynomial E) (us fs : List (Polynomial E)) → poly (combination o (u ∷ us) (f ∷ fs)) ≡ (poly_ring o l).add ((poly_ring o l).mul (poly u) (poly f)) (poly (combination o us fs))
+  -- a product more in a combination
+  pub combination-cons : (u f : Polynomial E) (us fs : List (Polynomial E)) → poly (combination o (u ∷ us) (f ∷ fs)) ≡ (poly_ring o l).add ((poly_ring o l).mul (poly u) (poly f)) (poly (combination o us fs))
   unfolding combination
   combination-cons u f us fs = class-add (poly_ops o) (poly_laws o l) _ _ ∙ ap (λ x. (poly_ring o l).add x (poly (combination o us fs))) (class-mul (poly_ops o) (poly_laws o l) u f)
 
@@ -96,24 +98,29 @@ module _ {E : Type 0} (o : RingOps E) (l : RingLaws o) where
   combination-none [] = refl
   combination-none (f ∷ fs) = combination-none fs
 
-  -- a member has a list of cofactors
-  pub in-member : (fs : List (Polynomial E)) {x : Class (poly_ops o)} → In (poly_ring o l) (generator fs) x → (f : Polynomial E) → class (poly_ops o) f ≡ x → ∥ IsMember o fs f ∥₁
-  in-member fs In.none f e = ∣ record {
+  -- zero is a member
+  pub member_none : (fs : List (Polynomial E)) (f : Polynomial E) → class (poly_ops o) f ≡ (poly_ring o l).zero → IsMember o fs f
+  member_none fs f e = record {
     cofactors = replicate (length fs) [];
     as_many = length-replicate (length fs) [];
     sums_up = class_exact (poly_ops o) (poly_laws o l) f _ (e ∙ sym (class-zero (poly_ops o) (poly_laws o l)) ∙ ap poly (sym (combination-none fs)));
-  } ∣₁
+  }
+
+  -- a multiple of a generator more
+  pub member_more : (fs : List (Polynomial E)) (f v : Polynomial E) (k : ℕ) (g : Polynomial E) → poly f ≡ (poly_ring o l).add ((poly_ring o l).mul (poly v) (generator fs k)) (poly g) → IsMember o fs g → IsMember o fs f
+  member_more fs f v k g e m = record {
+    cofactors = added v k m.cofactors;
+    as_many = length-added v k m.cofactors ∙ m.as_many;
+    sums_up = class_exact (poly_ops o) (poly_laws o l) f _ (e ∙ ap ((poly_ring o l).add _) (class_sound (poly_ops o) (poly_laws o l) g _ m.sums_up) ∙ sym (combination-added v k m.cofactors fs m.as_many));
+  }
+
+  -- a member has a list of cofactors
+  pub in-member : (fs : List (Polynomial E)) {x : Class (poly_ops o)} → In (poly_ring o l) (generator fs) x → (f : Polynomial E) → class (poly_ops o) f ≡ x → ∥ IsMember o fs f ∥₁
+  in-member fs In.none f e = ∣ member_none fs f e ∣₁
   in-member fs (In.more {f = x} u k r) f e =
       class_ind (poly_ops o) (poly_laws o l) (λ u. poly f ≡ (poly_ring o l).add ((poly_ring o l).mul u (generator fs k)) x → ∥ IsMember o fs f ∥₁) (λ u. hlevel (∥∥₁_prop {A = IsMember o fs f}))
       (λ v e. class_ind (poly_ops o) (poly_laws o l) (λ x. poly f ≡ (poly_ring o l).add ((poly_ring o l).mul (poly v) (generator fs k)) x → ((g : Polynomial E) → poly g ≡ x → ∥ IsMember o fs g ∥₁) → ∥ IsMember o fs f ∥₁) (λ x. hlevel (∥∥₁_prop {A = IsMember o fs f}))
-      (λ g e below. ∥∥₁_map (below g refl) (with_one v g e)) x e (in-member fs r)) u e
-    where
-      with_one : (v g : Polynomial E) → poly f ≡ (poly_ring o l).add ((poly_ring o l).mul (poly v) (generator fs k)) (poly g) → IsMember o fs g → IsMember o fs f
-      with_one v g e m = record {
-        cofactors = added v k m.cofactors;
-        as_many = length-added v k m.cofactors ∙ m.as_many;
-        sums_up = class_exact (poly_ops o) (poly_laws o l) f _ (e ∙ ap ((poly_ring o l).add _) (class_sound (poly_ops o) (poly_laws o l) g _ m.sums_up) ∙ sym (combination-added v k m.cofactors fs m.as_many));
-      }
+      (λ g e below. ∥∥₁_map (below g refl) (member_more fs f v k g e)) x e (in-member fs r)) u e
 
   -- the image of a member, by the images of its cofactors
   pub member-substitute : (images : List (Polynomial E)) (fs : List (Polynomial E)) (f : Polynomial E) → IsMember o fs f → IsMember o (map (substitute o images) fs) (substitute o images f)
