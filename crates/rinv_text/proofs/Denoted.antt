@@ -5,6 +5,9 @@ use Rattle.rinv_text.specs.declared.token.Placed.{Placed as Seen}
 use Rattle.rinv_text.specs.declared.step.Step.{Step}
 use Rattle.rinv_text.specs.declared.size.Size.{Size}
 use Rattle.rinv_text.specs.declared.fault.TextFault.{TextFault}
+use Rattle.rinv_text.specs.declared.fault.TextStop.{TextStop}
+use Rattle.rinv_text.specs.declared.fault.TextStop.TheVariants.{Fault, NoMemory}
+use Rattle.rinv_text.specs.Faults.{OnFault}
 use Rattle.rinv_text.specs.declared.fault.TextCode.{TextCode}
 use Rattle.rinv_text.specs.declared.fault.TextCode.TheVariants.{Expression, Name, Limit, FormalDegree, FormalTerms}
 use Rattle.rinv_text.specs.Tokens.{Placed, kinds, tokens}
@@ -16,7 +19,9 @@ use Rattle.rinv_text.specs.Images.{literal_of, seen, steps_of}
 use Rattle.rinv_text.specs.Automaton.{initial, parsed}
 use Rattle.rinv_text.specs.Evaluation.{outcome}
 use Rattle.rinv_text.specs.Sizes.{sizes}
-use Rattle.rinv_text.specs.Sightings.{first_unknown_word, exceeds, first_place, size_excess, excess_of, fault_by, fault_of}
+use Rattle.rinv_text.specs.Sightings.{first_unknown_word, exceeds, first_place, size_excess, excess_of, fault_by, fault_of, IsRead}
+use Rattle.rinv_algebra.specs.Polynomial.{Polynomial}
+use Rattle.rinv_text.specs.Values.{IsNormalOver, IsStored}
 use Rattle.rinv_text.specs.Meanings.{Meaning, meanings}
 use Rattle.rinv_text.proofs.Malformed.{parsed-ok, parsed-err, stuck-malformed}
 use Rattle.rinv_text.proofs.Postfix.{outcome-steps}
@@ -73,7 +78,7 @@ module _ (p : ℕ) (names : List (List ℕ)) where
       same =
           ap (λ (b : Bool). if b then Some Limit else size_excess (outcome sizes (steps_of (literal_of p) (place_of names) t))) (exceeds-seen p (place_of names) 0 ts)
           ∙ ap (λ (x : Option TextCode). if is_past_limit 0 (kinds ts) then Some Limit else x)
-              (ap (λ (o : Option Size). size_excess o) (outcome-steps sizes (literal_of p) (place_of names) t ∙ sizes-result p (place_of names) t) ∙ size-shows t (is_high t))
+          (ap (λ (o : Option Size). size_excess o) (outcome-steps sizes (literal_of p) (place_of names) t ∙ sizes-result p (place_of names) t) ∙ size-shows t (is_high t))
 
   module _ (text : List ℕ) (ts : List Seen) (are : ts ≡ map (seen (literal_of p) (place_of names)) (tokens text)) where
     read-as : (r : Result (List Step) ℕ) → parsed (length text) initial ts ≡ r → parsed (length text) initial (map (seen (literal_of p) (place_of names)) (tokens text)) ≡ r
@@ -122,3 +127,42 @@ module _ (p : ℕ) (names : List (List ℕ)) where
                 ∙ outcome-steps (meanings p (length names)) (literal_of p) (place_of names) t
                 ∙ meanings-result p names listed t low (derived-names (HasPlace names) d (words-known names (tokens text) known));
           }
+
+-- a fault that has a property that follows
+pub fault-weaker : (P Q : TextFault → Type 0) → ((f : TextFault) → P f → Q f) → (e : TextStop) → OnFault P e → OnFault Q e
+fault-weaker P Q h (Fault f) m = h f m
+fault-weaker P Q h NoMemory m = m
+
+-- ---- the answers of the reader
+
+module _ (p : ℕ) (names : List (List ℕ)) (text : List ℕ) (ts : List Seen) (ss : List Step) (read : IsRead p names text ts ss) (count : ℕ) (all : count ≡ length names) (o : Option TextFault) (found : o ≡ fault_of count ts ss) where
+  fault-found : o ≡ fault_of (length names) ts ss
+  fault-found = found ∙ ap (λ n. fault_of n ts ss) all
+
+  pub answer-refused : (fault : TextFault) → o ≡ Some fault → IsRefused names text fault
+  answer-refused fault e = text-refused p names text ts read.tokens ss read.steps fault (sym e ∙ fault-found)
+
+  module _ (listed : IsTrue (is_listed p)) (none : o ≡ None) (q n : ℕ) (field : q ≡ p) (vars : n ≡ count) where
+    whole : Accepted p names text ts read.tokens ss read.steps
+    whole = text-accepted p names text ts read.tokens ss read.steps listed (sym none ∙ fault-found)
+
+    -- the steps have a meaning
+    pub answer-meaning : (g : Meaning) × (outcome (meanings q n) ss ≡ Some g)
+    answer-meaning = (
+      record { degree = formal_degree whole.tree; value = value p names whole.tree },
+      ap (λ m. outcome (meanings m n) ss) field ∙ ap (λ m. outcome (meanings p m) ss) (vars ∙ all) ∙ whole.result,
+    )
+
+    stored : (r : Polynomial ℕ) → ((g : Meaning) → outcome (meanings q n) ss ≡ Some g → IsStored q n g.degree g.value r) → IsStored p (length names) (formal_degree whole.tree) (value p names whole.tree) r
+    unfolding answer-meaning
+    stored r each =
+        subst (λ m. IsStored p m (formal_degree whole.tree) (value p names whole.tree) r) (vars ∙ all)
+        (subst (λ m. IsStored m n (formal_degree whole.tree) (value p names whole.tree) r) field (each answer-meaning.0 answer-meaning.1))
+
+    -- the polynomial is in normal form
+    pub answer-normal : (r : Polynomial ℕ) → ((g : Meaning) → outcome (meanings q n) ss ≡ Some g → IsStored q n g.degree g.value r) → IsNormalOver p (length names) r
+    answer-normal r each = (stored r each).normal
+
+    -- the text denotes it
+    pub answer-denotes : (r : Polynomial ℕ) → ((g : Meaning) → outcome (meanings q n) ss ≡ Some g → IsStored q n g.degree g.value r) → Denotes p names text r
+    answer-denotes r each = record { tree = whole.tree; derived = whole.derived; accepted = whole.accepted; same = (stored r each).value }

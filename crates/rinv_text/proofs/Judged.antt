@@ -91,14 +91,14 @@ module _ (p : ℕ) (place : List ℕ → ℕ) where
 
   power-case : (t : Tree) (k : ℕ) → sizes.power (size_of t) (exponent_of k) ≡ unless (nat_lt max_formal_degree k || nat_lt max_formal_degree (k * formal_degree t)) (record { degree = k * formal_degree t; terms = min (formal_terms t ^ k) many; is_long = is_long t || nat_lt max_formal_terms (formal_terms t ^ k) })
   power-case t k = elim (cases_Bool (nat_lt max_formal_degree k)) [
-      | inl e ↦
-          let high : nat_lt max_formal_degree (exponent_of k) ≡ true = grind (arith, nat_tests) in
-          rw (high, e) refl
-      | inr e ↦
-          let same : exponent_of k ≡ k = grind (arith, nat_tests) in
-          rw (same, e) (ap (λ (s : Size). unless (nat_lt max_formal_degree (k * formal_degree t)) s)
-              (counted-same (k * formal_degree t) (min (formal_terms t) many ^ k) (formal_terms t ^ k) (is_long t) (capped-power many (formal_terms t) k)))
-    ]
+    | inl e ↦
+        let high : nat_lt max_formal_degree (exponent_of k) ≡ true = grind (arith, nat_tests) in
+        rw (high, e) refl
+    | inr e ↦
+        let same : exponent_of k ≡ k = grind (arith, nat_tests) in
+        rw (same, e) (ap (λ (s : Size). unless (nat_lt max_formal_degree (k * formal_degree t)) s)
+        (counted-same (k * formal_degree t) (min (formal_terms t) many ^ k) (formal_terms t ^ k) (is_long t) (capped-power many (formal_terms t) k)))
+  ]
 
   -- the size, unless an exponent or a degree is too great
   pub sizes-result : (t : Tree) → result sizes (literal_of p) place t ≡ unless (is_high t) (size_of t)

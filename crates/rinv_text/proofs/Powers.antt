@@ -82,8 +82,8 @@ module _ (p v : ℕ) where
   pub variable-stored : (k n : ℕ) (items f : Polynomial ℕ) (m : List ℕ) → m ≡ replicate k 0 ++ 1 ∷ [] ++ replicate n 0 → items ≡ (m, 1) ∷ [] → IsNormalOver p v f → IsSame (poly_ops o) f items → IsStored p v 1 (variable o k) f
   variable-stored k n items f m e h nf ef =
       let value : IsSame (poly_ops o) f (variable o k) =
-          same-then o l f ((m, 1) ∷ []) (variable o k) (subst (λ g. IsSame (poly_ops o) f g) h ef)
-          (term-same_monomial o l m (replicate k 0 ++ 1 ∷ []) 1 (ap (λ j. same_monomial j (replicate k 0 ++ 1 ∷ [])) e ∙ behind (replicate k 0 ++ 1 ∷ []) n)) in
+      same-then o l f ((m, 1) ∷ []) (variable o k) (subst (λ g. IsSame (poly_ops o) f g) h ef)
+      (term-same_monomial o l m (replicate k 0 ++ 1 ∷ []) 1 (ap (λ j. same_monomial j (replicate k 0 ++ 1 ∷ [])) e ∙ behind (replicate k 0 ++ 1 ∷ []) n)) in
       record {
         normal = nf;
         low = low-normal p v 1 f (variable o k) nf value (All-cons (λ t. total_degree t.0 ≤ 1) (replicate k 0 ++ 1 ∷ [], 1) [] (omega (arith, variable-degree k)) (All-nil (λ t. total_degree t.0 ≤ 1)));
@@ -94,7 +94,7 @@ module _ (p v : ℕ) where
   variable-terms k items m small h e i =
       subst (λ g. All (IsTerm (λ c. nat_lt c p) v) g) (sym i)
       (All-cons (IsTerm (λ c. nat_lt c p) v) (m, 1) []
-        (record { vars = ap (λ (j : List ℕ). length j) e ∙ whole; coefficient = grind (arith, nat_tests) }) (All-nil (IsTerm (λ c. nat_lt c p) v)))
+      (record { vars = ap (λ (j : List ℕ). length j) e ∙ whole; coefficient = grind (arith, nat_tests) }) (All-nil (IsTerm (λ c. nat_lt c p) v)))
     where
       whole : length {A = ℕ} (replicate k 0 ++ 1 ∷ [] ++ replicate (v - k - 1) 0) ≡ v
       whole = omega (arith, h, length-append {A = ℕ} (replicate k 0 ++ 1 ∷ []) (replicate (v - k - 1) 0), length-append {A = ℕ} (replicate k 0) (1 ∷ []), length-replicate {A = ℕ} k 0, length-replicate {A = ℕ} (v - k - 1) 0)

@@ -26,14 +26,14 @@ HasPlace names w = nat_lt (place_of names w) (length names) ≡ true
 pub words-known : (names : List (List ℕ)) (ts : List Placed) → first_unknown names ts ≡ None → EachWord (HasPlace names) (kinds ts)
 unfolding first_unknown
 words-known names [] e = tt
-words-known names ((k, word w) ∷ ts) e = at (list_any (bytes_eq w) names) (place-known names w) e
+words-known names ((k, word w) ∷ ts) e = at (list_any (bytes_eq w) names) (place-known names w) (λ f. words-known names ts f) e
   where
     has : nat_le (length names) (place_of names w) ≡ false → HasPlace names w
     has h = grind (arith, nat_tests)
 
-    at : (b : Bool) → nat_le (length names) (place_of names w) ≡ not b → (if b then first_unknown names ts else Some k) ≡ None → HasPlace names w × EachWord (HasPlace names) (kinds ts)
-    at true h f = (has h, words-known names ts f)
-    at false h f = let clash : Some k ≡ None = f in cc
+    at : (b : Bool) → nat_le (length names) (place_of names w) ≡ not b → (first_unknown names ts ≡ None → EachWord (HasPlace names) (kinds ts)) → (if b then first_unknown names ts else Some k) ≡ None → HasPlace names w × EachWord (HasPlace names) (kinds ts)
+    at true h rest f = (has h, rest f)
+    at false h rest f = let clash : Some k ≡ None = f in cc
 words-known names ((k, numeral n) ∷ ts) e = words-known names ts e
 words-known names ((k, plus) ∷ ts) e = words-known names ts e
 words-known names ((k, minus) ∷ ts) e = words-known names ts e

@@ -69,7 +69,7 @@ module _ (p v : ℕ) (listed : IsTrue (is_listed p)) where
     value =
         same-then o l w (sum_of fs) f h
         (same-then o l (sum_of fs) (product o (constant o 1) (sum_of fs)) f (same-back o l (product o (constant o 1) (sum_of fs)) (sum_of fs) (one-times (sum_of fs)))
-          (subst (λ n. IsSame P (product o (constant o n) (sum_of fs)) f) e split.value));
+        (subst (λ n. IsSame P (product o (constant o n) (sum_of fs)) f) e split.value));
   }
 
   -- multiplied out
@@ -91,7 +91,7 @@ module _ (p v : ℕ) (listed : IsTrue (is_listed p)) where
     value =
         same-then o l (product o (constant o t) (sum_of fs)) (product o (product o (constant o (p - 1)) (constant o s)) (sum_of fs)) (opposite o f)
         (L.mul_same (constant o t) (product o (constant o (p - 1)) (constant o s)) (sum_of fs) (sum_of fs)
-          (subst (λ n. IsSame P (constant o n) (product o (constant o (p - 1)) (constant o s))) (sym e) (constant-product p listed (p - 1) s)) (L.same_refl (sum_of fs)))
+        (subst (λ n. IsSame P (constant o n) (product o (constant o (p - 1)) (constant o s))) (sym e) (constant-product p listed (p - 1) s)) (L.same_refl (sum_of fs)))
         (product-scalar P L (constant o (p - 1)) (constant o s) (sum_of fs) f (opposite o f) split.value (same-equal o l (product o (constant o (p - 1)) f) (opposite o f) (opposite-product p listed f)));
   }
 
@@ -110,7 +110,7 @@ module _ (p v : ℕ) (listed : IsTrue (is_listed p)) where
         low = subst (λ l. IsLow (max d e) l) (sym whole) (low-append d e (sum_of fs) (sum_of gs) x.low y.low);
         value = subst (λ l. IsSame P (product o (constant o 1) l) (f ++ g)) (sym whole)
             (same-then o l (product o (constant o 1) (sum_of fs ++ sum_of gs)) (sum_of fs ++ sum_of gs) (f ++ g) (one-times (sum_of fs ++ sum_of gs))
-              (append-same o l (sum_of fs) f (sum_of gs) g (plain s d fs f es x) (plain t e gs g et y)));
+            (append-same o l (sum_of fs) f (sum_of gs) g (plain s d fs f es x) (plain t e gs g et y)));
       }
 
   -- ---- products
@@ -125,7 +125,7 @@ module _ (p v : ℕ) (listed : IsTrue (is_listed p)) where
       value =
           same-then o l (product o (constant o u) (sum_of fs)) (product o (product o (product o (constant o s) (constant o t)) (constant o c)) (sum_of fs)) (product o f g)
           (L.mul_same (constant o u) (product o (product o (constant o s) (constant o t)) (constant o c)) (sum_of fs) (sum_of fs)
-            (subst (λ n. IsSame P (constant o n) (product o (product o (constant o s) (constant o t)) (constant o c))) (sym h) (constant-product_three p listed s t c)) (L.same_refl (sum_of fs)))
+          (subst (λ n. IsSame P (constant o n) (product o (product o (constant o s) (constant o t)) (constant o c))) (sym h) (constant-product_three p listed s t c)) (L.same_refl (sum_of fs)))
           (product-right P L (constant o s) (sum_of fs) (constant o t) (sum_of gs) f g (constant o c) x.value y.value (same-then o l (sum_of gs) w (constant o c) (same-back o l w (sum_of gs) hw) hc));
     }
 
@@ -135,9 +135,9 @@ module _ (p v : ℕ) (listed : IsTrue (is_listed p)) where
         single u (d + e) hs (sum_of gs) r (product o f g) small eh
         (record { normal = nr; low = low-weaker e (d + e) r (omega arith) (low-normal p v e r (sum_of gs) nr hr y.low); value = hr })
         (same-then o l (product o (constant o u) (sum_of gs)) (product o (product o (product o (constant o s) (constant o t)) (constant o c)) (sum_of gs)) (product o f g)
-          (L.mul_same (constant o u) (product o (product o (constant o s) (constant o t)) (constant o c)) (sum_of gs) (sum_of gs)
-            (subst (λ n. IsSame P (constant o n) (product o (product o (constant o s) (constant o t)) (constant o c))) (sym h) (constant-product_three p listed s t c)) (L.same_refl (sum_of gs)))
-          (product-left P L (constant o s) (sum_of fs) (constant o t) (sum_of gs) f g (constant o c) x.value y.value (same-then o l (sum_of fs) w (constant o c) (same-back o l w (sum_of fs) hw) hc)))
+        (L.mul_same (constant o u) (product o (product o (constant o s) (constant o t)) (constant o c)) (sum_of gs) (sum_of gs)
+        (subst (λ n. IsSame P (constant o n) (product o (product o (constant o s) (constant o t)) (constant o c))) (sym h) (constant-product_three p listed s t c)) (L.same_refl (sum_of gs)))
+        (product-left P L (constant o s) (sum_of fs) (constant o t) (sum_of gs) f g (constant o c) x.value y.value (same-then o l (sum_of fs) w (constant o c) (same-back o l w (sum_of fs) hw) hc)))
 
     -- otherwise
     pub split-product : (u : ℕ) (hs : List (Polynomial ℕ)) (a b w : Polynomial ℕ) → IsNormalOver p v a → IsSame P a (sum_of fs) → IsNormalOver p v b → IsSame P b (sum_of gs) → IsNormalOver p v w → IsSame P w (product o a b) → u ≡ s * t % p → u < p → hs ≡ w ∷ [] → IsSplit p v u hs (d + e) (product o f g)
@@ -149,9 +149,9 @@ module _ (p v : ℕ) (listed : IsTrue (is_listed p)) where
           value = same-then o l w (product o a b) (product o (sum_of fs) (sum_of gs)) hw (L.mul_same a (sum_of fs) b (sum_of gs) ha hb);
         })
         (same-then o l (product o (constant o u) (product o (sum_of fs) (sum_of gs))) (product o (product o (constant o s) (constant o t)) (product o (sum_of fs) (sum_of gs))) (product o f g)
-          (L.mul_same (constant o u) (product o (constant o s) (constant o t)) (product o (sum_of fs) (sum_of gs)) (product o (sum_of fs) (sum_of gs))
-            (subst (λ n. IsSame P (constant o n) (product o (constant o s) (constant o t))) (sym h) (constant-product p listed s t)) (L.same_refl (product o (sum_of fs) (sum_of gs))))
-          (product-both P L (constant o s) (sum_of fs) (constant o t) (sum_of gs) f g (product o (sum_of fs) (sum_of gs)) x.value y.value (L.same_refl (product o (sum_of fs) (sum_of gs)))))
+        (L.mul_same (constant o u) (product o (constant o s) (constant o t)) (product o (sum_of fs) (sum_of gs)) (product o (sum_of fs) (sum_of gs))
+        (subst (λ n. IsSame P (constant o n) (product o (constant o s) (constant o t))) (sym h) (constant-product p listed s t)) (L.same_refl (product o (sum_of fs) (sum_of gs))))
+        (product-both P L (constant o s) (sum_of fs) (constant o t) (sum_of gs) f g (product o (sum_of fs) (sum_of gs)) x.value y.value (L.same_refl (product o (sum_of fs) (sum_of gs)))))
 
   -- two sums may be multiplied
   pub fits-sums : (d e : ℕ) (fs gs : List (Polynomial ℕ)) (a b : Polynomial ℕ) → IsNormalOver p v a → IsSame P a (sum_of fs) → IsNormalOver p v b → IsSame P b (sum_of gs) → IsLow d (sum_of fs) → IsLow e (sum_of gs) → d + e ≤ max_degree → product_fits o a b ≡ true

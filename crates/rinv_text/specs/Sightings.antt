@@ -1,5 +1,5 @@
 -- The refusals that tokens alone show, as the reader sees tokens.
-use Rattle.std.specs.Prelude.{ℕ, ◌+◌, ◌-◌, List, [], ◌∷◌, Bool, false, ◌||◌, nat_le, if◌then◌else◌, Option, Some, None}
+use Rattle.std.specs.Prelude.{◌≡◌, ℕ, map, length, Ok, ◌+◌, ◌-◌, List, [], ◌∷◌, Bool, false, ◌||◌, nat_le, if◌then◌else◌, Option, Some, None}
 use Rattle.rinv_text.specs.declared.token.Kind.{Kind}
 use Rattle.rinv_text.specs.declared.token.Kind.TheVariants.{Numeral, Word, Opening, Closing}
 use Rattle.rinv_text.specs.declared.token.Placed.{Placed}
@@ -9,6 +9,10 @@ use Rattle.rinv_text.specs.declared.fault.TextFault.{TextFault}
 use Rattle.rinv_text.specs.declared.fault.TextCode.{TextCode}
 use Rattle.rinv_text.specs.declared.fault.TextCode.TheVariants.{Name, Limit, FormalDegree, FormalTerms}
 use Rattle.rinv_text.specs.Stops.{max_nesting}
+use Rattle.rinv_text.specs.Tokens.{tokens as tokens_of}
+use Rattle.rinv_text.specs.Reading.{place_of}
+use Rattle.rinv_text.specs.Images.{literal_of, seen}
+use Rattle.rinv_text.specs.Automaton.{initial, parsed}
 use Rattle.rinv_text.specs.Evaluation.{outcome}
 use Rattle.rinv_text.specs.Sizes.{sizes}
 
@@ -55,3 +59,8 @@ fault_by ts None None = None
 -- the first refusal of tokens and steps, where there are `count` names
 abbrev pub fault_of : ℕ → List Placed → List Step → Option TextFault
 fault_of count ts ss = fault_by ts (first_unknown_word count ts) (excess_of ts ss)
+
+-- the reader has these tokens of the text, and these steps of its expression
+pub record IsRead (p : ℕ) (names : List (List ℕ)) (text : List ℕ) (ts : List Placed) (ss : List Step) : Type 0 where
+  pub tokens : ts ≡ map (seen (literal_of p) (place_of names)) (tokens_of text)
+  pub steps : parsed (length text) initial ts ≡ Ok ss

@@ -55,12 +55,7 @@ fn want_of_memory(fault: RingFault) -> NoMemory
 }
 
 // The product of two polynomials that fit.
-fn multiplied(
-    ring: &PolyRing<Gf>,
-    alloc: Global,
-    f: &KPoly,
-    g: &KPoly,
-) -> Result<KPoly, NoMemory>
+fn multiplied(ring: &PolyRing<Gf>, alloc: Global, f: &KPoly, g: &KPoly) -> Result<KPoly, NoMemory>
     requires left { IsNormalOver ring.now.coeffs ring.now.vars f.now }
     requires right { IsNormalOver ring.now.coeffs ring.now.vars g.now }
     requires fits { product_fits (residue_ops ring.now.coeffs) f.now g.now ≡ true }

@@ -1,10 +1,10 @@
 //! From a text to the polynomial that it denotes, or to its first fault.
 
-ghost use Rattle.std.specs.Prelude.{◌≡◌, ◌<◌, ◌-◌, ◌^◌, length, IfOk, IfErr, nat_lt};
+ghost use Rattle.std.specs.Prelude.{◌≡◌, ◌<◌, ◌-◌, ◌^◌, ℕ, List, length, IfOk, IfErr, nat_lt};
 ghost use Rattle.rinv_algebra.specs.Residue.{residue_ops};
 ghost use Rattle.rinv_algebra.specs.Normal.{IsNormal};
 ghost use Rattle.rinv_text.specs.Faults.{OnFault};
-ghost use Rattle.rinv_text.specs.Sightings.{first_place, excess_of, fault_of};
+ghost use Rattle.rinv_text.specs.Sightings.{first_place, excess_of, fault_of, IsRead};
 ghost use Rattle.rinv_text.specs.Stops.{Denotes, IsRefused};
 
 use crate::fault::{TextCode, TextFault, TextStop};
@@ -31,11 +31,7 @@ fn start(tokens: &[Placed]) -> u32
 }
 
 // What is too great in the expression.
-fn excess(
-    alloc: Global,
-    tokens: &[Placed],
-    steps: &[Step],
-) -> Result<Option<TextCode>, NoMemory>
+fn excess(alloc: Global, tokens: &[Placed], steps: &[Step]) -> Result<Option<TextCode>, NoMemory>
     ensures { IfOk result (λ o. o ≡ excess_of tokens.now steps.now) }
 {
     if is_past_limit(tokens) {
@@ -75,30 +71,45 @@ fn refusal(
     Ok(Some(TextFault { place, code }))
 }
 
+// The polynomial of an expression, unless it is refused.
+fn accepted(
+    alloc: Global,
+    tokens: &[Placed],
+    steps: &[Step],
+    names: &Names,
+    field: &Gf,
+) -> Result<KPoly, TextStop>
+    requires { (text : List ℕ) × IsRead field.now names.now text tokens.now steps.now }
+    ensures normal { IfOk result (IsNormal (residue_ops field.now) (λ c. nat_lt c field.now) (length names.now)) }
+    ensures value { (text : List ℕ) → IsRead field.now names.now text tokens.now steps.now → IfOk result (Denotes field.now names.now text) }
+    ensures fault { (text : List ℕ) → IsRead field.now names.now text tokens.now steps.now → IfErr result (OnFault (IsRefused names.now text)) }
+{
+    let _p = field.modulus();
+    let count = names.len();
+    match refusal(alloc, count, tokens, steps)? {
+        Some(fault) => Err(TextStop::Fault(fault)),
+        None => {
+            let ring = PolyRing::new(*field, count);
+            let polynomial = value_of(alloc, steps, &ring)?;
+            Ok(polynomial)
+        }
+    }
+}
+
 /// The polynomial over the field that the text denotes, in the variables with these names; or the first fault of the text: it is no
 /// expression; a name in it is not known; a number is 2^128 or more, or parentheses stand more than 100 deep; an exponent or a formal
 /// degree is over 64; a part has more than 1,000,000 formal terms. The place is a number of bytes from the start of the text: that of
 /// the first token that no expression has there, of the name, or of the first token.
-pub fn read_poly(
-    alloc: Global,
-    text: &str,
-    names: &Names,
-    field: &Gf,
-) -> Result<KPoly, TextStop>
+pub fn read_poly(alloc: Global, text: &str, names: &Names, field: &Gf) -> Result<KPoly, TextStop>
     requires { length text.now < 2 ^ 32 - 1 }
     ensures normal { IfOk result (IsNormal (residue_ops field.now) (λ c. nat_lt c field.now) (length names.now)) }
     ensures value { IfOk result (Denotes field.now names.now text.now) }
     ensures fault { IfErr result (OnFault (IsRefused names.now text.now)) }
 {
-    let _p = field.modulus();
     let bytes = text.as_bytes();
-    let count = names.len();
     let tokens = read_tokens(alloc, bytes, names, field)?;
-    let steps = parse(alloc, &tokens, bytes.len() as u32)?;
-    if let Some(fault) = refusal(alloc, count, &tokens, &steps)? {
-        return Err(TextStop::Fault(fault));
+    match parse(alloc, &tokens, bytes.len() as u32) {
+        Ok(steps) => accepted(alloc, &tokens, &steps, names, field),
+        Err(stop) => Err(stop),
     }
-    let ring = PolyRing::new(*field, count);
-    let polynomial = value_of(alloc, &steps, &ring)?;
-    Ok(polynomial)
 }

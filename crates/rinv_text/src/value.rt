@@ -33,11 +33,7 @@ fn negative(stack: &mut Vec<Partial>, ring: &PolyRing<Gf>) -> Partial
 }
 
 // The sum of the two on top.
-fn sum(
-    alloc: Global,
-    stack: &mut Vec<Partial>,
-    ring: &PolyRing<Gf>,
-) -> Result<Partial, NoMemory>
+fn sum(alloc: Global, stack: &mut Vec<Partial>, ring: &PolyRing<Gf>) -> Result<Partial, NoMemory>
     requires { (gs : List Meaning) × (hs : List Meaning) × Piled ring.now.coeffs ring.now.vars (reverse stack.old.items) gs × (step (meanings ring.now.coeffs ring.now.vars) Sum gs ≡ Some hs) }
     ensures { (gs hs : List Meaning) → Piled ring.now.coeffs ring.now.vars (reverse stack.old.items) gs → step (meanings ring.now.coeffs ring.now.vars) Sum gs ≡ Some hs → IfOk result (λ x. Piled ring.now.coeffs ring.now.vars (x ∷ reverse stack.new.items) hs) }
 {
@@ -115,11 +111,7 @@ fn value_after(
 }
 
 /// The polynomial that the steps give, where they give one.
-pub fn value_of(
-    alloc: Global,
-    steps: &[Step],
-    ring: &PolyRing<Gf>,
-) -> Result<KPoly, NoMemory>
+pub fn value_of(alloc: Global, steps: &[Step], ring: &PolyRing<Gf>) -> Result<KPoly, NoMemory>
     requires { (g : Meaning) × (outcome (meanings ring.now.coeffs ring.now.vars) steps.now ≡ Some g) }
     ensures { (g : Meaning) → outcome (meanings ring.now.coeffs ring.now.vars) steps.now ≡ Some g → IfOk result (IsStored ring.now.coeffs ring.now.vars g.degree g.value) }
 {

@@ -13,5 +13,5 @@ pub returns : goal.returns
 returns c = λ gs hs pile e.
     one-returns c.args.ring.now.coeffs c.args.ring.now.vars (meanings c.args.ring.now.coeffs c.args.ring.now.vars).negative (reverse c.args.stack.now.items) (reverse c.take_top-value.new.stack.items) c.take_top-value.result c.negative.result gs hs c.take_top-value.ensures pile e
     (λ g z s h.
-      let same : record { degree = g.degree; value = opposite (residue_ops c.args.ring.now.coeffs) g.value } ≡ z = cc in
-      along c.args.ring.now.coeffs c.args.ring.now.vars c.negative.result (record { degree = g.degree; value = opposite (residue_ops c.args.ring.now.coeffs) g.value }) z same (c.negative.ensures g.degree g.value s))
+    let same : record { degree = g.degree; value = opposite (residue_ops c.args.ring.now.coeffs) g.value } ≡ z = cc in
+    along c.args.ring.now.coeffs c.args.ring.now.vars c.negative.result (record { degree = g.degree; value = opposite (residue_ops c.args.ring.now.coeffs) g.value }) z same (c.negative.ensures g.degree g.value s))

@@ -22,5 +22,5 @@ pub returns : goal.returns
 returns c = λ gs hs pile e.
     one-returns c.args.ring.now.coeffs c.args.ring.now.vars (λ x. (meanings c.args.ring.now.coeffs c.args.ring.now.vars).power x c.args.exponent) (reverse c.args.stack.now.items) (reverse c.take_top-base.new.stack.items) c.take_top-base.result c.in_ok-power.power gs hs c.take_top-base.ensures pile e
     (λ g z s h.
-      let (fits, same) = if-some (nat_le (c.args.exponent * g.degree) 64) (record { degree = c.args.exponent * g.degree; value = to_the (residue_ops c.args.ring.now.coeffs) c.args.exponent g.value }) z h in
-      along c.args.ring.now.coeffs c.args.ring.now.vars c.in_ok-power.power (record { degree = c.args.exponent * g.degree; value = to_the (residue_ops c.args.ring.now.coeffs) c.args.exponent g.value }) z same (c.in_ok-power.ensures g.degree g.value s))
+    let (fits, same) = if-some (nat_le (c.args.exponent * g.degree) 64) (record { degree = c.args.exponent * g.degree; value = to_the (residue_ops c.args.ring.now.coeffs) c.args.exponent g.value }) z h in
+    along c.args.ring.now.coeffs c.args.ring.now.vars c.in_ok-power.power (record { degree = c.args.exponent * g.degree; value = to_the (residue_ops c.args.ring.now.coeffs) c.args.exponent g.value }) z same (c.in_ok-power.ensures g.degree g.value s))

@@ -16,10 +16,11 @@ pub loop-step-preserved : goal.loop-step-preserved
 loop-step-preserved c =
     let (gs, pile, rest) = c.loop-step.invariant in
     let (g, e) = c.requires in
-    let (hs, s) = step-some (meanings c.args.ring.now.coeffs c.args.ring.now.vars) c.args.steps.now c.loop-step.step-index gs rest _ g c.loop-step-test.true e in
-    (hs,
-     subst (λ (l : List Partial). Piled c.args.ring.now.coeffs c.args.ring.now.vars l hs) (pushed c.push.new.self.items c.value_after.new.stack.items c.in_ok-value.value c.in_ok-push.ensures.items) (c.in_ok-value.ensures gs hs pile s),
-     evaluate-on (meanings c.args.ring.now.coeffs c.args.ring.now.vars) c.args.steps.now c.loop-step.step-index gs rest _ hs c.loop-step-test.true (sym s))
+    let (hs, s) = step-some (meanings c.args.ring.now.coeffs c.args.ring.now.vars) c.args.steps.now c.loop-step.step-index gs rest _ g c.loop-step-test.true e in (
+      hs,
+      subst (λ (l : List Partial). Piled c.args.ring.now.coeffs c.args.ring.now.vars l hs) (pushed c.push.new.self.items c.value_after.new.stack.items c.in_ok-value.value c.in_ok-push.ensures.items) (c.in_ok-value.ensures gs hs pile s),
+      evaluate-on (meanings c.args.ring.now.coeffs c.args.ring.now.vars) c.args.steps.now c.loop-step.step-index gs rest _ hs c.loop-step-test.true (sym s),
+    )
 
 pub take_top-whole-requires : goal.take_top-whole-requires
 take_top-whole-requires c =
