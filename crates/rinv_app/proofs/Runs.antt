@@ -4,7 +4,7 @@ use Rattle.std.proofs.Common.{◌≡◌, ℕ, List, Option, ◌⊎◌, inl, inr,
 use Rattle.rinv_io.specs.Causes.{Rose}
 use Rattle.rinv_app.specs.declared.status.Status.{Status}
 use Rattle.rinv_app.specs.declared.status.Status.TheVariants.{Done, Denied, Usage, Refused, ReadFault, WriteFault, Incomplete, NoMemory}
-use Rattle.rinv_app.specs.Run.{AnswersAll, AnswersLong, IsDefined, IsRun, IsSent}
+use Rattle.rinv_app.specs.Run.{IsDefined, IsRun, IsSent}
 
 module _ (left left' written written' : Option (List ℕ)) (faults faults' : ℕ) (text : List ℕ) where
   -- a text is defined for three statuses alone

@@ -2,12 +2,10 @@
 #![tactic(auto)]
 
 mod fraction;
-mod polynomial;
 mod reply;
 mod status;
 #[cfg(test)]
 mod tests;
-mod text;
 mod top;
 
 use rinv_io::{StdSink, StdSource};

@@ -1,6 +1,7 @@
 //! The answer to the bytes of a certificate: a text and a status, before anything is written.
 
-ghost use Rattle.std.specs.Prelude.{◌≡◌, IfOk, None, codes};
+ghost use Rattle.std.specs.Prelude.{◌≡◌, ◌<◌, ◌^◌, [], length, true, IfOk, None, codes};
+ghost use Rattle.rinv_defs.specs.Names.{are_names};
 ghost use Rattle.rinv_defs.specs.Format.{format_failure};
 ghost use Rattle.rinv_defs.specs.Text.{yes_text, no_text, refused_text};
 ghost use Rattle.rinv_cert.specs.Faults.{part_word};
@@ -8,9 +9,9 @@ ghost use Rattle.rinv_app.specs.Run.{IsAnswer};
 
 use crate::fraction::write_lines;
 use crate::status::Status;
-use rinv_cert::{CertFault, CertStop, Certificate, from_json};
+use rinv_cert::{CertFault, CertStop, Certificate, Name, from_json};
 use rinv_check::{FormatStop, Verdict, check, stored};
-use rinv_poly::PolyRing;
+use rinv_text::{Names, TextStop};
 use std::alloc::{AllocError as NoMemory, Global};
 
 /// What is printed for these bytes, and the status.
@@ -64,12 +65,35 @@ fn yes_lines(alloc: Global, certificate: &Certificate) -> Result<Vec<u8>, NoMemo
         Err(FormatStop::NoMemory) => return Err(NoMemory),
         Err(FormatStop::Part(_)) => unreachable!(),
     };
-    let ring = PolyRing::new(parts.field, parts.space);
     let system = &certificate.system;
-    let names = system.space.as_slice();
+    let names = names_of(alloc, system.space.as_slice())?;
     let mut out = Vec::new(alloc);
     out.extend_from_slice(b"yes\n")?;
-    write_lines(alloc, &ring, names, parts.fractions.as_slice(), &mut out)?;
+    write_lines(
+        alloc,
+        parts.field,
+        &names,
+        parts.fractions.as_slice(),
+        &mut out,
+    )?;
     out.extend_from_slice(b"invariant\n")?;
     Ok(out)
+}
+
+// The names of a system's variables, as a list of names.
+fn names_of(alloc: Global, names: &[Name]) -> Result<Names, NoMemory>
+    requires form { are_names [] names.now ≡ true }
+    requires few { length names.now < 2 ^ 32 }
+    ensures { IfOk result (λ n. n ≡ names.now) }
+{
+    let mut words = Vec::new(alloc);
+    for name in names {
+        let word = String::from_str(alloc, name.as_str())?;
+        words.push(word)?;
+    }
+    match Names::from_words(alloc, &words) {
+        Ok(names) => Ok(names),
+        Err(TextStop::NoMemory) => Err(NoMemory),
+        Err(TextStop::Fault(_)) => unreachable!(),
+    }
 }

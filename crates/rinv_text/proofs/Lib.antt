@@ -16,7 +16,7 @@ pub mod NamesInTurn
 mod Keys
 mod Absent
 mod MadeNames
-mod WordsInTurn
+pub mod WordsInTurn
 pub mod Joined
 mod TermsInTurn
 mod Descending
@@ -36,3 +36,5 @@ pub mod Powers
 pub mod Piles
 pub mod Read
 pub mod Denoted
+mod OneTerm
+pub mod Lengths

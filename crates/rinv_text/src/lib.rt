@@ -1,8 +1,9 @@
-//! Names of variables, and polynomials as text.
+//! Names of variables, and polynomials and fractions as text.
 #![tactic(auto)]
 
 mod fault;
 mod form;
+mod fraction;
 pub mod laws;
 mod limits;
 mod names;
@@ -10,15 +11,20 @@ mod parser;
 mod partial;
 mod polynomial;
 mod reading;
+#[cfg(test)]
+mod reading_tests;
 mod size;
 mod step;
 mod terms;
+#[cfg(test)]
+mod tests;
 mod token;
 mod tokens;
 mod value;
 
 pub use fault::{TextCode, TextFault, TextStop};
 pub use form::has_name_form;
+pub use fraction::write_fraction;
 pub use names::Names;
 pub use polynomial::{write_poly, written};
 pub use reading::read_poly;

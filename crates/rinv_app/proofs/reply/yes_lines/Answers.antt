@@ -1,4 +1,6 @@
-use Rattle.std.proofs.Common.{◌≡◌, ◌∙◌, ◌++◌, [], List, ℕ, ap, sym, codes}
+use Rattle.std.proofs.Common.{◌≡◌, ◌∙◌, ◌++◌, [], List, ℕ, ap, sym, arith, length, codes}
+use Rattle.rinv_defs.specs.Names.{are_names}
+use Rattle.rinv_app.proofs.Accepted.{space_names-of_format}
 use Rattle.rinv_defs.specs.System.{System}
 use Rattle.rinv_defs.specs.Invariant.{Fraction}
 use Rattle.rinv_defs.specs.Certificate.{Certificate, Kind, invariance}
@@ -17,11 +19,17 @@ yes-of c p names fs empty out out' out'' kind ps ns are none first lines last =
     ∙ ap (λ (gs : List Fraction). (codes "yes\n" ++ fraction_lines c.system.p c.system.space 1 gs) ++ codes "invariant\n") are
     ∙ ap (λ (k : Kind). (codes "yes\n" ++ fraction_lines c.system.p c.system.space 1 c.fractions) ++ kind_text k) (sym kind)
 
+pub names_of-requires-clause-form : goal.names_of-requires-clause-form
+names_of-requires-clause-form c = ap (are_names []) (c.as_slice.ensures ∙ ap (λ (s : System). s.space) c.system.view_is ∙ ap (λ (d : Certificate). d.system.space) c.certificate.view_is) ∙ (space_names-of_format c.args.certificate.now c.requires).1
+
+pub names_of-requires-clause-few : goal.names_of-requires-clause-few
+names_of-requires-clause-few c = let h = (space_names-of_format c.args.certificate.now c.requires).0 in omega (arith, h, ap length (c.as_slice.ensures ∙ ap (λ (s : System). s.space) c.system.view_is ∙ ap (λ (d : Certificate). d.system.space) c.certificate.view_is))
+
 pub returns : goal.returns
 returns c =
     yes-of c.args.certificate.now _ _ _ _ _ _ _
     (sym (ap (λ (d : Certificate). d.kind) c.certificate.view_is))
-    (c.new-ring.ensures.ring ∙ c.in-Ok.ensures.ok.field)
-    (c.as_slice-names.ensures ∙ ap (λ (s : System). s.space) c.system.view_is ∙ ap (λ (d : Certificate). d.system.space) c.certificate.view_is)
-    (c.as_slice.ensures ∙ c.in-Ok.ensures.ok.fractions)
+    c.in-Ok.ensures.ok.field
+    (c.in_ok-names.ensures ∙ c.as_slice.ensures ∙ ap (λ (s : System). s.space) c.system.view_is ∙ ap (λ (d : Certificate). d.system.space) c.certificate.view_is)
+    (c.as_slice-2.ensures ∙ c.in-Ok.ensures.ok.fractions)
     c.new-out.ensures.items c.in_ok-extend_from_slice.ensures.items c.in_ok-write_lines.ensures c.in_ok-extend_from_slice-2.ensures.items

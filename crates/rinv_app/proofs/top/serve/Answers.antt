@@ -1,7 +1,6 @@
-use Rattle.std.proofs.Common.{◌≡◌, Err, codes, refl, ap, inl, inr, sym, ◌∙◌, true≢false}
+use Rattle.std.proofs.Common.{Err, codes, refl, ap, inr}
 use Rattle.rinv_app.specs.declared.status.Status.TheVariants.{Refused}
-use Rattle.rinv_app.specs.Run.{IsDefined}
-use Rattle.rinv_app.proofs.Runs.{run-sent, sent-usage, sent-read, sent-write}
+use Rattle.rinv_app.proofs.Runs.{run-sent}
 use Rattle.rinv_app.proofs.top.serve.Goals as goal
 
 pub returns-in-Err-TooLong-clause-run : goal.returns-in-Err-TooLong-clause-run
