@@ -11,6 +11,8 @@ mod parser;
 mod partial;
 mod polynomial;
 mod reading;
+#[cfg(test)]
+mod reading_tests;
 mod size;
 mod step;
 mod terms;
