@@ -1,6 +1,8 @@
 //! Reading and writing the text of a system.
 #![tactic(auto)]
 
+mod keyword;
 mod lines;
 
+pub use keyword::{Keyword, head};
 pub use lines::{content, first_bad_line, first_line};

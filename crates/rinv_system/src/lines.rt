@@ -72,8 +72,22 @@ fn blanks_before(bytes: &[u8]) -> usize
     word_place(bytes).unwrap_or(bytes.len())
 }
 
+// How many bytes stand before the first blank, or the whole length.
+pub(crate) fn word_len(bytes: &[u8]) -> usize
+    ensures before { result ≡ position_or_len is_blank bytes.now }
+    ensures within { result ≤ length bytes.now }
+{
+    blank_place(bytes).unwrap_or(bytes.len())
+}
+
+fn blank_place(bytes: &[u8]) -> Option<usize>
+    ensures { result ≡ position is_blank bytes.now }
+{
+    bytes.iter().position(|b| is_blank(*b))
+}
+
 // Without blanks in front.
-fn from_word(bytes: &[u8]) -> &[u8]
+pub(crate) fn from_word(bytes: &[u8]) -> &[u8]
     ensures { result.now ≡ from_word bytes.now }
 {
     bytes.split_at(blanks_before(bytes)).1
