@@ -1,2 +1,6 @@
 pub mod Lines
 pub mod Words
+pub mod Entries
+pub mod Drafts
+pub mod Forms
+pub mod Texts

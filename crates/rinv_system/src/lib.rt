@@ -3,6 +3,8 @@
 
 mod keyword;
 mod lines;
+mod refused;
 
 pub use keyword::{Keyword, head};
 pub use lines::{content, first_bad_line, first_line};
+pub use refused::{Code, Refused, SystemStop};
