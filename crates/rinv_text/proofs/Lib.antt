@@ -1,3 +1,8 @@
 pub mod Runs
 pub mod Complete
 pub mod Reached
+pub mod NamesInTurn
+mod Keys
+mod Absent
+mod MadeNames
+mod WordsInTurn

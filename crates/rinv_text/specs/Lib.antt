@@ -5,3 +5,4 @@ pub mod Reading
 pub mod Stops
 pub mod Images
 pub mod Automaton
+pub mod Names

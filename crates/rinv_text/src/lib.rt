@@ -2,10 +2,12 @@
 #![tactic(auto)]
 
 mod fault;
+mod form;
 mod names;
 mod parser;
 mod step;
 mod token;
 
 pub use fault::{TextCode, TextFault, TextStop};
+pub use form::has_name_form;
 pub use names::Names;
