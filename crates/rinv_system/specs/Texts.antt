@@ -1,6 +1,7 @@
 -- The system that a text denotes, or the line at which it is refused and the code.
 use Rattle.std.specs.Prelude.{◌≡◌, ℕ, ◌+◌, List, [], ◌∷◌, ◌++◌, length, map, IsTrue, IsFalse, Option, Some, None, unwrap_or}
 use Rattle.rinv_defs.specs.System.{System}
+use Rattle.rinv_text.specs.Told.{Told}
 use Rattle.rinv_system.specs.declared.keyword.Keyword.{Keyword}
 use Rattle.rinv_system.specs.declared.refused.Code.{Code}
 use Rattle.rinv_system.specs.declared.refused.Code.TheVariants.{NotText, Word, Missing}
@@ -43,12 +44,6 @@ system_of d = record {
   action = unwrap_or d.action [];
   section = [];
 }
-
--- a system, and the greatest number of pairs and of steps
-pub record Told : Type 0 where
-  pub system : System
-  pub pairs : ℕ
-  pub steps : ℕ
 
 -- what a whole draft tells, with 10,000 pairs and 10,000,000 steps where it does not say how many
 abbrev pub told_by : Draft → Told

@@ -1,6 +1,7 @@
 -- The automaton reads each phrase of the grammar, and has its steps then.
 use Rattle.std.proofs.Common.{◌≡◌, ℕ, List, [], ◌∷◌, ◌++◌, map, Bool, true, false, refl, sym, ap, ◌∙◌, append_assoc, Some}
 use Rattle.std.proofs.lemmas.List.{map-append, append-nil}
+use Rattle.rinv_text.specs.declared.token.Literal.{Literal}
 use Rattle.rinv_text.specs.declared.token.Kind.{Kind}
 use Rattle.rinv_text.specs.declared.token.Kind.TheVariants.{Plus, Minus, Times, Caret, Opening, Closing}
 use Rattle.rinv_text.specs.declared.step.Step.{Step}
@@ -12,7 +13,7 @@ use Rattle.rinv_text.specs.declared.parser.Pending.TheVariants as waits
 use Rattle.rinv_text.specs.declared.parser.Unfinished.{Unfinished}
 use Rattle.rinv_text.specs.Tokens.{Token, numeral, word, caret, opening, closing, plus, minus, times}
 use Rattle.rinv_text.specs.Grammar.{Tree, number, name, negative, sum, difference, product, power, Level, atom, factor, term, expression, Derives, a_number, a_name, in_parentheses, an_atom, a_power, a_factor, a_product, a_term, with_plus, with_minus, a_sum, a_difference}
-use Rattle.rinv_text.specs.Images.{kind_of, steps_of, exponent_of}
+use Rattle.rinv_text.specs.Images.{kind_of, steps_of}
 use Rattle.rinv_text.specs.Automaton.{State, run, initial, finished, fresh, product_steps, term_steps, settled}
 use Rattle.rinv_text.proofs.Runs.{run-on}
 
@@ -30,24 +31,24 @@ abbrev pub after : Bool → Mode
 after true = Atom
 after false = Factor
 
-module _ (p : ℕ) (names : List (List ℕ)) where
+module _ (literal : ℕ → Literal) (place : List ℕ → ℕ) where
   abbrev ks : List Token → List Kind
-  ks ts = map (kind_of p names) ts
+  ks ts = map (kind_of literal place) ts
 
   -- what a run over a phrase does
   record Atomic (ts : List Token) (t : Tree) : Type 0 where
-    runs : (b c : Bool) (q : Pending) (os : List Unfinished) (ss : List Step) → run (at (ready b) c q os ss) (ks ts) ≡ Some (at Atom c q os (ss ++ steps_of p names t))
+    runs : (b c : Bool) (q : Pending) (os : List Unfinished) (ss : List Step) → run (at (ready b) c q os ss) (ks ts) ≡ Some (at Atom c q os (ss ++ steps_of literal place t))
 
   record Factored (ts : List Token) (t : Tree) : Type 0 where
     bare : Bool
-    runs : (b c : Bool) (q : Pending) (os : List Unfinished) (ss : List Step) → run (at (ready b) c q os ss) (ks ts) ≡ Some (at (after bare) c q os (ss ++ steps_of p names t))
+    runs : (b c : Bool) (q : Pending) (os : List Unfinished) (ss : List Step) → run (at (ready b) c q os ss) (ks ts) ≡ Some (at (after bare) c q os (ss ++ steps_of literal place t))
 
   record Termed (ts : List Token) (t : Tree) : Type 0 where
     bare : Bool
     multiplies : Bool
     steps : List Step → List Step
     runs : (b : Bool) (q : Pending) (os : List Unfinished) (ss : List Step) → run (at (ready b) false q os ss) (ks ts) ≡ Some (at (after bare) multiplies q os (steps ss))
-    whole : (ss : List Step) → steps ss ++ product_steps multiplies ≡ ss ++ steps_of p names t
+    whole : (ss : List Step) → steps ss ++ product_steps multiplies ≡ ss ++ steps_of literal place t
 
   record Expressed (ts : List Token) (t : Tree) : Type 0 where
     bare : Bool
@@ -55,7 +56,7 @@ module _ (p : ℕ) (names : List (List ℕ)) where
     pending : Pending
     steps : List Step → List Step
     runs : (os : List Unfinished) (ss : List Step) → run (at Start false waits.Nothing os ss) (ks ts) ≡ Some (at (after bare) multiplies pending os (steps ss))
-    whole : (ss : List Step) → steps ss ++ product_steps multiplies ++ term_steps pending ≡ ss ++ steps_of p names t
+    whole : (ss : List Step) → steps ss ++ product_steps multiplies ++ term_steps pending ≡ ss ++ steps_of literal place t
 
   with_steps : {a b : List Step} (ss : List Step) (m : Mode) (c : Bool) (q : Pending) (os : List Unfinished) → a ≡ b → Some (at m c q os a) ≡ Some (at m c q os b)
   with_steps ss m c q os e = ap (λ (x : List Step). Some (at m c q os x)) e
@@ -64,11 +65,11 @@ module _ (p : ℕ) (names : List (List ℕ)) where
 
   number-runs : (n : ℕ) → Atomic (numeral n ∷ []) (number n)
   unfolding run steps_of
-  number-runs n = record { runs = λ b c q os ss. elim b as (λ b. run (at (ready b) c q os ss) (ks (numeral n ∷ [])) ≡ Some (at Atom c q os (ss ++ steps_of p names (number n)))) [ true ↦ refl | false ↦ refl ] }
+  number-runs n = record { runs = λ b c q os ss. elim b as (λ b. run (at (ready b) c q os ss) (ks (numeral n ∷ [])) ≡ Some (at Atom c q os (ss ++ steps_of literal place (number n)))) [ true ↦ refl | false ↦ refl ] }
 
   name-runs : (w : List ℕ) → Atomic (word w ∷ []) (name w)
   unfolding run steps_of
-  name-runs w = record { runs = λ b c q os ss. elim b as (λ b. run (at (ready b) c q os ss) (ks (word w ∷ [])) ≡ Some (at Atom c q os (ss ++ steps_of p names (name w)))) [ true ↦ refl | false ↦ refl ] }
+  name-runs w = record { runs = λ b c q os ss. elim b as (λ b. run (at (ready b) c q os ss) (ks (word w ∷ [])) ≡ Some (at Atom c q os (ss ++ steps_of literal place (name w)))) [ true ↦ refl | false ↦ refl ] }
 
   closing-runs : (b m c : Bool) (r q : Pending) (os : List Unfinished) (ss : List Step) →
       run (at (after b) m r (record { multiplies = c; pending = q } ∷ os) ss) (Closing ∷ []) ≡ Some (at Atom c q os (ss ++ product_steps m ++ term_steps r))
@@ -81,10 +82,10 @@ module _ (p : ℕ) (names : List (List ℕ)) where
   parentheses-run {ts} {t} e = record {
     runs = λ b c q os ss.
         opened b c q os ss
-        ∙ ap (λ l. run (at Start false waits.Nothing (record { multiplies = c; pending = q } ∷ os) ss) l) (map-append (kind_of p names) ts (closing ∷ []))
+        ∙ ap (λ l. run (at Start false waits.Nothing (record { multiplies = c; pending = q } ∷ os) ss) l) (map-append (kind_of literal place) ts (closing ∷ []))
         ∙ run-on _ _ (ks ts) (Closing ∷ []) (e.runs (record { multiplies = c; pending = q } ∷ os) ss)
         ∙ closing-runs e.bare e.multiplies c e.pending q os (e.steps ss)
-        ∙ with_steps ss Atom c q os (e.whole ss)
+        ∙ with_steps ss Atom c q os (e.whole ss);
   }
     where
       opened : (b c : Bool) (q : Pending) (os : List Unfinished) (ss : List Step) →
@@ -102,9 +103,9 @@ module _ (p : ℕ) (names : List (List ℕ)) where
   power-runs {ts} {t} a k = record {
     bare = false;
     runs = λ b c q os ss.
-        ap (λ l. run (at (ready b) c q os ss) l) (map-append (kind_of p names) ts (caret ∷ numeral k ∷ []))
+        ap (λ l. run (at (ready b) c q os ss) l) (map-append (kind_of literal place) ts (caret ∷ numeral k ∷ []))
         ∙ run-on _ _ (ks ts) (ks (caret ∷ numeral k ∷ [])) (a.runs b c q os ss)
-        ∙ with_steps ss Factor c q os (append_assoc ss (steps_of p names t) (Power (exponent_of k) ∷ []));
+        ∙ with_steps ss Factor c q os (append_assoc ss (steps_of literal place t) (Power (literal k).exponent ∷ []));
   }
 
   -- ---- terms
@@ -113,9 +114,9 @@ module _ (p : ℕ) (names : List (List ℕ)) where
   factor-runs {ts} {t} f = record {
     bare = f.bare;
     multiplies = false;
-    steps = λ ss. ss ++ steps_of p names t;
+    steps = λ ss. ss ++ steps_of literal place t;
     runs = λ b q os ss. f.runs b false q os ss;
-    whole = λ ss. append-nil (ss ++ steps_of p names t);
+    whole = λ ss. append-nil (ss ++ steps_of literal place t);
   }
 
   times-runs : (b m : Bool) (q : Pending) (os : List Unfinished) (ss : List Step) → (ls : List Kind) →
@@ -129,13 +130,13 @@ module _ (p : ℕ) (names : List (List ℕ)) where
   product-runs {ts} {us} {t} {u} a f = record {
     bare = f.bare;
     multiplies = true;
-    steps = λ ss. ss ++ steps_of p names t ++ steps_of p names u;
+    steps = λ ss. ss ++ steps_of literal place t ++ steps_of literal place u;
     runs = λ b q os ss.
-        ap (λ l. run (at (ready b) false q os ss) l) (map-append (kind_of p names) ts (times ∷ us))
+        ap (λ l. run (at (ready b) false q os ss) l) (map-append (kind_of literal place) ts (times ∷ us))
         ∙ run-on _ _ (ks ts) (Times ∷ ks us) (a.runs b q os ss)
         ∙ times-runs a.bare a.multiplies q os (a.steps ss) (ks us)
         ∙ f.runs false true q os (a.steps ss ++ product_steps a.multiplies)
-        ∙ with_steps ss (after f.bare) true q os (ap (λ (x : List Step). x ++ steps_of p names u) (a.whole ss));
+        ∙ with_steps ss (after f.bare) true q os (ap (λ (x : List Step). x ++ steps_of literal place u) (a.whole ss));
     whole = λ ss. simp append_assoc;
   }
 
@@ -170,7 +171,7 @@ module _ (p : ℕ) (names : List (List ℕ)) where
     pending = waits.Negative;
     steps = a.steps;
     runs = λ os ss. a.runs false waits.Negative os ss;
-    whole = λ ss. ap (λ (x : List Step). x ++ Negative ∷ []) (a.whole ss) ∙ append_assoc ss (steps_of p names t) (Negative ∷ []);
+    whole = λ ss. ap (λ (x : List Step). x ++ Negative ∷ []) (a.whole ss) ∙ append_assoc ss (steps_of literal place t) (Negative ∷ []);
   }
 
   plus-after : (b m : Bool) (q : Pending) (os : List Unfinished) (ss : List Step) → (ls : List Kind) →
@@ -193,12 +194,12 @@ module _ (p : ℕ) (names : List (List ℕ)) where
     pending = waits.Sum;
     steps = λ ss. a.steps (e.steps ss ++ product_steps e.multiplies ++ term_steps e.pending);
     runs = λ os ss.
-        ap (λ l. run (at Start false waits.Nothing os ss) l) (map-append (kind_of p names) ts (plus ∷ us))
+        ap (λ l. run (at Start false waits.Nothing os ss) l) (map-append (kind_of literal place) ts (plus ∷ us))
         ∙ run-on _ _ (ks ts) (Plus ∷ ks us) (e.runs os ss)
         ∙ plus-after e.bare e.multiplies e.pending os (e.steps ss) (ks us)
         ∙ a.runs false waits.Sum os (e.steps ss ++ product_steps e.multiplies ++ term_steps e.pending);
     whole = λ ss.
-        ap (λ (x : List Step). x ++ Sum ∷ []) (a.whole (e.steps ss ++ product_steps e.multiplies ++ term_steps e.pending) ∙ ap (λ (x : List Step). x ++ steps_of p names u) (e.whole ss))
+        ap (λ (x : List Step). x ++ Sum ∷ []) (a.whole (e.steps ss ++ product_steps e.multiplies ++ term_steps e.pending) ∙ ap (λ (x : List Step). x ++ steps_of literal place u) (e.whole ss))
         ∙ simp append_assoc;
   }
 
@@ -210,12 +211,12 @@ module _ (p : ℕ) (names : List (List ℕ)) where
     pending = waits.Difference;
     steps = λ ss. a.steps (e.steps ss ++ product_steps e.multiplies ++ term_steps e.pending);
     runs = λ os ss.
-        ap (λ l. run (at Start false waits.Nothing os ss) l) (map-append (kind_of p names) ts (minus ∷ us))
+        ap (λ l. run (at Start false waits.Nothing os ss) l) (map-append (kind_of literal place) ts (minus ∷ us))
         ∙ run-on _ _ (ks ts) (Minus ∷ ks us) (e.runs os ss)
         ∙ minus-after e.bare e.multiplies e.pending os (e.steps ss) (ks us)
         ∙ a.runs false waits.Difference os (e.steps ss ++ product_steps e.multiplies ++ term_steps e.pending);
     whole = λ ss.
-        ap (λ (x : List Step). x ++ Difference ∷ []) (a.whole (e.steps ss ++ product_steps e.multiplies ++ term_steps e.pending) ∙ ap (λ (x : List Step). x ++ steps_of p names u) (e.whole ss))
+        ap (λ (x : List Step). x ++ Difference ∷ []) (a.whole (e.steps ss ++ product_steps e.multiplies ++ term_steps e.pending) ∙ ap (λ (x : List Step). x ++ steps_of literal place u) (e.whole ss))
         ∙ simp append_assoc;
   }
 
@@ -243,7 +244,7 @@ module _ (p : ℕ) (names : List (List ℕ)) where
   complete (a_difference e a) = difference-runs (complete e) (complete a)
 
   -- the run over an expression ends with its steps
-  pub expression-runs : (ts : List Token) (t : Tree) → Derives expression ts t → (s : State) × (run initial (map (kind_of p names) ts) ≡ Some s) × (finished s ≡ Some (steps_of p names t))
+  pub expression-runs : (ts : List Token) (t : Tree) → Derives expression ts t → (s : State) × (run initial (map (kind_of literal place) ts) ≡ Some s) × (finished s ≡ Some (steps_of literal place t))
   unfolding Runs
   expression-runs ts t d =
       let e : Expressed ts t = complete d in

@@ -6,3 +6,7 @@ mod Keys
 mod Absent
 mod MadeNames
 mod WordsInTurn
+pub mod Sound
+pub mod Parses
+pub mod Postfix
+pub mod Malformed

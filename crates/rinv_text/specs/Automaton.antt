@@ -1,7 +1,8 @@
 -- The automaton that reads tokens, and puts the steps of the expression behind those that it has.
-use Rattle.std.specs.Prelude.{ℕ, List, [], ◌∷◌, ◌++◌, reverse, Bool, true, false, if◌then◌else◌, Option, Some, None, option_and_then}
+use Rattle.std.specs.Prelude.{ℕ, List, [], ◌∷◌, ◌++◌, reverse, Bool, true, false, if◌then◌else◌, Option, Some, None, option_and_then, Result, Ok, Err, ok_or}
 use Rattle.rinv_text.specs.declared.token.Kind.{Kind}
 use Rattle.rinv_text.specs.declared.token.Kind.TheVariants.{Numeral, Word, Plus, Minus, Times, Caret, Opening, Closing}
+use Rattle.rinv_text.specs.declared.token.Placed.{Placed}
 use Rattle.rinv_text.specs.declared.step.Step.{Step}
 use Rattle.rinv_text.specs.declared.step.Step.TheVariants.{Number, Variable, Negative, Sum, Difference, Product, Power}
 use Rattle.rinv_text.specs.declared.parser.Mode.{Mode}
@@ -116,3 +117,8 @@ is_end _ _ = false
 -- the steps of the whole
 abbrev pub finished : State → Option (List Step)
 finished s = if is_end s.mode s.outer then Some (settled s.innermost s.steps) else None
+
+-- the steps of the tokens from a state on, or the place of the first token that is refused; `end` is the place behind the last
+unfoldable pub parsed : (end : ℕ) → State → List Placed → Result (List Step) ℕ
+parsed end s [] = ok_or (finished s) end
+parsed end s (t ∷ ts) = elim (advanced s t.kind) [ None ↦ Err t.place | Some r ↦ parsed end r ts ]

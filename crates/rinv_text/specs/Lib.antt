@@ -6,3 +6,5 @@ pub mod Stops
 pub mod Images
 pub mod Automaton
 pub mod Names
+pub mod Evaluation
+pub mod Told

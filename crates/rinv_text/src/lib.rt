@@ -6,8 +6,10 @@ mod form;
 mod names;
 mod parser;
 mod step;
+mod system;
 mod token;
 
 pub use fault::{TextCode, TextFault, TextStop};
 pub use form::has_name_form;
 pub use names::Names;
+pub use system::System;
