@@ -1,1 +1,3 @@
 mod LineFacts
+pub mod EntryFacts
+pub mod NumberFacts

@@ -4,3 +4,4 @@ pub mod Entries
 pub mod Drafts
 pub mod Forms
 pub mod Texts
+pub mod Stops

@@ -1,8 +1,10 @@
 //! Reading and writing the text of a system.
 #![tactic(auto)]
 
+mod entries;
 mod keyword;
 mod lines;
+mod number;
 mod refused;
 
 pub use keyword::{Keyword, head};

@@ -11,7 +11,7 @@ fn place_of(byte: u8, bytes: &[u8]) -> Option<usize>
 }
 
 // How many bytes stand before the first such byte, or the whole length.
-fn len_before(bytes: &[u8], byte: u8) -> usize
+pub(crate) fn len_before(bytes: &[u8], byte: u8) -> usize
     ensures before { result ≡ position_or_len (λ b. b == byte) bytes.now }
     ensures within { result ≤ length bytes.now }
 {

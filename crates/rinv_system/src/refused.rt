@@ -23,6 +23,35 @@ pub enum Code {
     Text(TextCode),
 }
 
+/// Why a line tells nothing.
+#[derive(Clone, Copy, Debug, PartialEq, Eq)]
+pub(crate) enum LineStop {
+    Fault(Code),
+    NoMemory,
+}
+
+impl From<NoMemory> for LineStop {
+    ghost use Rattle.std.specs.Prelude.{◌≡◌};
+    ghost use Rattle.rinv_system.specs.declared.refused.LineStop.TheVariants.{NoMemory};
+
+    ghost from_gives = { λ _ e. e ≡ NoMemory };
+
+    fn from(_error: NoMemory) -> LineStop {
+        LineStop::NoMemory
+    }
+}
+
+impl From<Code> for LineStop {
+    ghost use Rattle.std.specs.Prelude.{◌≡◌};
+    ghost use Rattle.rinv_system.specs.declared.refused.LineStop.TheVariants.{Fault};
+
+    ghost from_gives = { λ c e. e ≡ Fault c };
+
+    fn from(code: Code) -> LineStop {
+        LineStop::Fault(code)
+    }
+}
+
 /// The line, counted from 1, and its first fault.
 #[derive(Clone, Copy, Debug, PartialEq, Eq)]
 pub struct Refused {

@@ -10,6 +10,6 @@ mod system;
 mod token;
 
 pub use fault::{TextCode, TextFault, TextStop};
-pub use form::has_name_form;
+pub use form::{has_name_form, is_digit, is_letter};
 pub use names::Names;
 pub use system::System;

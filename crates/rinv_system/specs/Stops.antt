@@ -1,0 +1,26 @@
+-- What the answers of the reader say.
+use Rattle.std.specs.Prelude.{◌≡◌, ℕ, List, IsTrue}
+use Rattle.rinv_text.specs.Tokens.{number_of}
+use Rattle.rinv_system.specs.declared.keyword.Keyword.{Keyword}
+use Rattle.rinv_system.specs.declared.refused.Code.{Code}
+use Rattle.rinv_system.specs.declared.refused.LineStop.{LineStop}
+use Rattle.rinv_system.specs.declared.refused.LineStop.TheVariants as line
+use Rattle.rinv_system.specs.declared.refused.Refused.{Refused}
+use Rattle.rinv_system.specs.declared.refused.SystemStop.{SystemStop}
+use Rattle.rinv_system.specs.declared.refused.SystemStop.TheVariants as whole
+use Rattle.rinv_system.specs.Entries.{is_numeral}
+use Rattle.rinv_system.specs.Forms.{is_number_for}
+
+-- the code of a line's fault has the property; want of memory says nothing
+abbrev pub OnCode : (Code → Type 0) → LineStop → Type 0
+OnCode P (line.Fault code) = P code
+OnCode P line.NoMemory = Unit {0}
+
+-- a refusal has the property; want of memory says nothing
+abbrev pub OnRefusal : (Refused → Type 0) → SystemStop → Type 0
+OnRefusal P (whole.Refused r) = P r
+OnRefusal P whole.NoMemory = Unit {0}
+
+-- the rest of a line is a number that its word may have
+abbrev pub IsNumberFor : Keyword → List ℕ → ℕ → Type 0
+IsNumberFor k rest n = (n ≡ number_of rest) × IsTrue (is_numeral rest) × IsTrue (is_number_for k (number_of rest))
