@@ -1,9 +1,11 @@
 //! Reading and writing the text of a system.
 #![tactic(auto)]
 
+mod draft;
 mod entries;
 mod keyword;
 mod lines;
+mod naming;
 mod number;
 mod refused;
 

@@ -94,7 +94,7 @@ pub(crate) fn from_word(bytes: &[u8]) -> &[u8]
 }
 
 // Without blanks at the end.
-fn to_last_word(bytes: &[u8]) -> &[u8]
+pub(crate) fn to_last_word(bytes: &[u8]) -> &[u8]
     ensures { result.now ≡ to_last_word bytes.now }
 {
     let mut front = bytes;
