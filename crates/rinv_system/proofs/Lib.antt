@@ -1,5 +1,10 @@
 mod LineFacts
 pub mod EntryFacts
 pub mod NumberFacts
+pub mod Mapped
 pub mod NameFacts
+pub mod ListFacts
 pub mod StopFacts
+pub mod DraftFacts
+pub mod Constants
+pub mod Good

@@ -1,10 +1,9 @@
 -- Lists of names, word by word.
-use Rattle.std.proofs.Common.{◌≡◌, ℕ, zero, suc, ◌+◌, ◌<◌, List, [], ◌∷◌, ◌++◌, take, drop, length, get_or, map, Bool, true, false, not, ◌&&◌, ◌||◌, ◌==◌, IsTrue, IsFalse, bytes_eq, refl, sym, ap, subst, ◌∙◌, append_assoc, take_all, ◌≤◌, arith}
+use Rattle.std.proofs.Common.{◌≡◌, ℕ, zero, suc, ◌+◌, ◌<◌, List, [], ◌∷◌, ◌++◌, take, drop, length, get_or, map, Bool, true, false, not, ◌&&◌, ◌||◌, ◌==◌, IsTrue, IsFalse, bytes_eq, refl, sym, ap, subst, ◌∙◌, arith}
 use Rattle.std.specs.List.{list_all, list_any}
 use Rattle.std.specs.Str.{IsAscii}
 use Rattle.std.proofs.lemmas.Bool.Decides.{nat_tests}
-use Rattle.std.proofs.lemmas.List.{take_more, take-append-drop, get_or-map, length-map}
-use Rattle.std.proofs.lemmas.Simd.{map-map}
+use Rattle.std.proofs.lemmas.List.{get_or-map, length-map}
 use Rattle.std.proofs.lemmas.List.Folds.{list_any-append}
 use Rattle.std.proofs.lemmas.List.Sums.{AllPass-from_list_all}
 use Rattle.rinv_algebra.proofs.Same.{both}
@@ -13,6 +12,7 @@ use Rattle.rinv_text.specs.Tokens.{is_name_byte}
 use Rattle.rinv_text.specs.Names.{is_new_name}
 use Rattle.rinv_system.specs.Entries.{is_name_word}
 use Rattle.rinv_system.specs.Forms.{AreNewNames, HasOldName}
+use Rattle.rinv_system.proofs.Mapped.{mapped_more, mapped_split}
 
 name_byte-ascii : (b : ℕ) → is_name_byte b ≡ true → b < 128
 name_byte-ascii b h = grind (arith, nat_tests)
@@ -46,26 +46,19 @@ is_new_name-append earlier names w = rw (list_any-append (bytes_eq w) earlier na
 
 -- words that are seen through f, as far as a place
 module _ {X : Type 0} (f : X → List ℕ) (xs : List X) (earlier names : List (List ℕ)) (k : ℕ) (d : X) (w : List ℕ) where
-  next : k < length xs → w ≡ f (get_or xs k d) → take (k + 1) (map f xs) ≡ take k (map f xs) ++ w ∷ []
-  next lt is = take_more (map f xs) k [] (subst (λ n. k < n) (sym (length-map xs f)) lt) ∙ ap (λ v. take k (map f xs) ++ v ∷ []) (get_or-map f xs k d [] lt ∙ sym is)
-
   -- one word more is new
   pub AreNewNames-more : (more : List (List ℕ)) → k < length xs → w ≡ f (get_or xs k d) → names ≡ take k (map f xs) → AreNewNames earlier (take k (map f xs))
       → IsTrue (is_new_name (earlier ++ names) w) → more ≡ names ++ w ∷ [] → (more ≡ take (k + 1) (map f xs)) × AreNewNames earlier (take (k + 1) (map f xs))
   AreNewNames-more more lt is are old new pushed =
-      (pushed ∙ ap (λ ns. ns ++ w ∷ []) are ∙ sym (next lt is), subst (AreNewNames earlier) (sym (next lt is)) (AreNewNames.one_more w old (subst (λ ns. IsTrue (is_new_name (earlier ++ ns) w)) are new)))
+      let next : take (k + 1) (map f xs) ≡ take k (map f xs) ++ w ∷ [] = mapped_more f xs k d lt ∙ ap (λ v. take k (map f xs) ++ v ∷ []) (sym is) in
+      (pushed ∙ ap (λ ns. ns ++ w ∷ []) are ∙ sym next, subst (AreNewNames earlier) (sym next) (AreNewNames.one_more w old (subst (λ ns. IsTrue (is_new_name (earlier ++ ns) w)) are new)))
 
   -- or is the first that is not
   pub HasOldName-at : k < length xs → w ≡ f (get_or xs k d) → names ≡ take k (map f xs) → AreNewNames earlier (take k (map f xs))
       → IsFalse (is_new_name (earlier ++ names) w) → HasOldName earlier (map f xs)
   HasOldName-at lt is are old bad =
-      HasOldName.old (take k (map f xs)) w (drop (k + 1) (map f xs))
-      (sym (take-append-drop (k + 1) (map f xs)) ∙ ap (λ front. front ++ drop (k + 1) (map f xs)) (next lt is) ∙ append_assoc (take k (map f xs)) (w ∷ []) (drop (k + 1) (map f xs)))
+      HasOldName.old (take k (map f xs)) w (drop (k + 1) (map f xs)) (mapped_split f xs k d lt ∙ ap (λ v. take k (map f xs) ++ v ∷ drop (k + 1) (map f xs)) (sym is))
       old (subst (λ ns. IsFalse (is_new_name (earlier ++ ns) w)) are bad)
-
--- each element seen through f and then g
-pub map_done : {X : Type 0} (f : X → List ℕ) (g : List ℕ → List ℕ) (xs : List X) (found all : List (List ℕ)) (k : ℕ) → found ≡ map (λ x. g (f x)) (take k xs) → length xs ≤ k → map f xs ≡ all → found ≡ map g all
-map_done f g xs found all k is le whole = is ∙ ap (map (λ x. g (f x))) (take_all k xs le) ∙ sym (map-map g f xs) ∙ ap (map g) whole
 
 -- each word of a list of name words is one
 pub name_word-at : {X : Type 0} (f : X → List ℕ) (xs : List X) (k : ℕ) (d : X) → k < length xs → list_all is_name_word (map f xs) ≡ true → IsTrue (is_name_word (f (get_or xs k d)))

@@ -1,15 +1,21 @@
 -- What the answers of the reader say.
 use Rattle.std.specs.Prelude.{◌≡◌, ℕ, List, IsTrue}
+use Rattle.rinv_text.specs.declared.fault.TextFault.{TextFault}
+use Rattle.rinv_text.specs.declared.fault.TextStop.{TextStop}
+use Rattle.rinv_text.specs.declared.fault.TextStop.TheVariants as text
 use Rattle.rinv_text.specs.Tokens.{number_of}
 use Rattle.rinv_system.specs.declared.keyword.Keyword.{Keyword}
 use Rattle.rinv_system.specs.declared.refused.Code.{Code}
+use Rattle.rinv_system.specs.declared.refused.Code.TheVariants.{Text}
 use Rattle.rinv_system.specs.declared.refused.LineStop.{LineStop}
 use Rattle.rinv_system.specs.declared.refused.LineStop.TheVariants as line
 use Rattle.rinv_system.specs.declared.refused.Refused.{Refused}
 use Rattle.rinv_system.specs.declared.refused.SystemStop.{SystemStop}
 use Rattle.rinv_system.specs.declared.refused.SystemStop.TheVariants as whole
 use Rattle.rinv_system.specs.Entries.{is_numeral}
+use Rattle.rinv_system.specs.Drafts.{Draft, blank}
 use Rattle.rinv_system.specs.Forms.{is_number_for}
+use Rattle.rinv_system.specs.Texts.{AreTaken}
 
 -- the code of a line's fault has the property; want of memory says nothing
 abbrev pub OnCode : (Code → Type 0) → LineStop → Type 0
@@ -24,3 +30,17 @@ OnRefusal P whole.NoMemory = Unit {0}
 -- the rest of a line is a number that its word may have
 abbrev pub IsNumberFor : Keyword → List ℕ → ℕ → Type 0
 IsNumberFor k rest n = (n ≡ number_of rest) × IsTrue (is_numeral rest) × IsTrue (is_number_for k (number_of rest))
+
+-- some lines make the draft
+abbrev pub IsReached : Draft → Type 0
+IsReached d = (lines : List (List ℕ)) × AreTaken blank lines d
+
+-- the fault of a text has the property
+abbrev pub OnFault : (TextFault → Type 0) → TextStop → Type 0
+OnFault P (text.Fault f) = P f
+OnFault P text.NoMemory = Unit {0}
+
+-- the fault of an entry as that of its line
+abbrev pub line_stop : TextStop → LineStop
+line_stop (text.Fault f) = line.Fault (Text f.code)
+line_stop text.NoMemory = line.NoMemory

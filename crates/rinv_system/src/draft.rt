@@ -1,13 +1,18 @@
 //! What the lines so far told.
 
-ghost use Rattle.std.specs.Prelude.{◌≡◌, [], length, unwrap_or};
-ghost use Rattle.rinv_system.specs.Drafts.{blank, has_begun, has_come, may_come, order_fault, at_most, exactly, length_fault};
+ghost use Rattle.std.specs.Prelude.{◌≡◌, [], false, length, unwrap_or, IsTrue, IfOk};
+ghost use Rattle.std.specs.List.{list_any};
+ghost use Rattle.rinv_text.specs.Names.{has_prime, meet};
+ghost use Rattle.rinv_system.specs.declared.keyword.Keyword.TheVariants as word;
+ghost use Rattle.rinv_system.specs.Drafts.{blank, modulus, group_names, space_names, has_begun, has_come, may_come, order_fault, at_most, exactly, length_fault, names_for};
+ghost use Rattle.rinv_system.specs.Forms.{TellsPolynomials, with_number, with_names, with_polynomials};
 
 use crate::keyword::Keyword;
 use crate::refused::Code;
 use rinv_poly::KPoly;
 use rinv_ring::Gf;
 use rinv_text::{Names, TextCode};
+use std::alloc::{AllocError as NoMemory, Global};
 use std::marker::Model;
 
 // The greatest numbers of variables of a list, and of polynomials of an ideal.
@@ -169,5 +174,102 @@ impl Draft {
             Keyword::Action => exactly(count(&self.space), length),
             _ => None,
         }
+    }
+
+    /// The modulus.
+    pub(crate) fn field(&self) -> Gf
+        requires { IsTrue (has_begun self.now) }
+        ensures { result ≡ modulus self.now }
+    {
+        match self.field {
+            Some(field) => field,
+            None => unreachable!(),
+        }
+    }
+
+    /// The names that the polynomials on the line of the word may have.
+    pub(crate) fn names_for(&self, alloc: Global, keyword: Keyword) -> Result<Names, NoMemory>
+        requires begun { IsTrue (has_begun self.now) }
+        requires plain { list_any has_prime (group_names self.now) ≡ false }
+        requires apart { meet (group_names self.now) (space_names self.now) ≡ false }
+        ensures { IfOk result (λ names. names ≡ names_for self.now keyword) }
+    {
+        let Some(group) = &self.group else {
+            unreachable!()
+        };
+        let Some(space) = &self.space else {
+            unreachable!()
+        };
+        match keyword {
+            Keyword::Product => group.copies(alloc, 2),
+            Keyword::Action => group.joined(alloc, space),
+            Keyword::Unit => Ok(Names::empty(alloc)),
+            _ => group.copies(alloc, 1),
+        }
+    }
+
+    pub(crate) fn with_field(self, field: Gf) -> Draft
+        ensures { result ≡ with_number self word.Field field }
+    {
+        let mut next = self;
+        next.field = Some(field);
+        next
+    }
+
+    pub(crate) fn with_group(self, names: Names) -> Draft
+        ensures { result ≡ with_names self word.Group names }
+    {
+        let mut next = self;
+        next.group = Some(names);
+        next
+    }
+
+    pub(crate) fn with_space(self, names: Names) -> Draft
+        ensures { result ≡ with_names self word.Space names }
+    {
+        let mut next = self;
+        next.space = Some(names);
+        next
+    }
+
+    pub(crate) fn with_pairs(self, pairs: u32) -> Draft
+        ensures { result ≡ with_number self word.Pairs pairs }
+    {
+        let mut next = self;
+        next.pairs = Some(pairs);
+        next
+    }
+
+    pub(crate) fn with_steps(self, steps: u64) -> Draft
+        ensures { result ≡ with_number self word.Steps steps }
+    {
+        let mut next = self;
+        next.steps = Some(steps);
+        next
+    }
+
+    pub(crate) fn with_unit(self, unit: Vec<u32>) -> Draft
+        ensures { result ≡ record self { unit = Some unit.items } }
+    {
+        let mut next = self;
+        next.unit = Some(unit);
+        next
+    }
+
+    /// With the polynomials of a line, but for the unit.
+    pub(crate) fn with_polynomials(self, keyword: Keyword, list: Vec<KPoly>) -> Draft
+        requires tells { TellsPolynomials keyword }
+        requires not_unit { keyword ≡ word.Unit → ⊥ }
+        ensures { result ≡ with_polynomials self keyword list.items }
+    {
+        let mut next = self;
+        match keyword {
+            Keyword::Ideal => next.ideal = Some(list),
+            Keyword::Product => next.product = Some(list),
+            Keyword::Inverse => next.inverse = Some(list),
+            Keyword::Action => next.action = Some(list),
+            _ => unreachable!(),
+        }
+        next
     }
 }

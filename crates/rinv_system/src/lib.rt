@@ -3,8 +3,10 @@
 
 mod draft;
 mod entries;
+mod entry;
 mod keyword;
 mod lines;
+mod listing;
 mod naming;
 mod number;
 mod refused;

@@ -2,7 +2,7 @@
 
 use rinv_ring::FieldFault;
 use rinv_text::TextCode;
-use std::alloc::AllocError as NoMemory;
+use std::alloc::{AllocError as NoMemory, AllocFailed};
 
 /// What is wrong with a line.
 #[derive(Clone, Copy, Debug, PartialEq, Eq)]
@@ -37,6 +37,17 @@ impl From<NoMemory> for LineStop {
     ghost from_gives = { λ _ e. e ≡ NoMemory };
 
     fn from(_error: NoMemory) -> LineStop {
+        LineStop::NoMemory
+    }
+}
+
+impl<T: Drop> From<AllocFailed<T>> for LineStop {
+    ghost use Rattle.std.specs.Prelude.{◌≡◌};
+    ghost use Rattle.rinv_system.specs.declared.refused.LineStop.TheVariants.{NoMemory};
+
+    ghost from_gives = { λ _ e. e ≡ NoMemory };
+
+    fn from(_error: AllocFailed<T>) -> LineStop {
         LineStop::NoMemory
     }
 }

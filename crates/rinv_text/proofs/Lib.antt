@@ -4,7 +4,7 @@ pub mod Reached
 pub mod NamesInTurn
 mod Keys
 mod Absent
-mod MadeNames
+pub mod MadeNames
 mod WordsInTurn
 pub mod Sound
 pub mod Parses

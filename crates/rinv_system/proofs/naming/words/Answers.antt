@@ -1,6 +1,6 @@
 use Rattle.std.proofs.Common.{ap, map, ◌∙◌}
 use Rattle.rinv_system.specs.Lines.{from_word, to_last_word}
-use Rattle.rinv_system.proofs.NameFacts.{map_done}
+use Rattle.rinv_system.proofs.Mapped.{map_done}
 use Rattle.rinv_system.proofs.naming.words.Goals as goal
 
 pub returns : goal.returns
