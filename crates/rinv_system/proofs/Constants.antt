@@ -1,6 +1,7 @@
 -- A polynomial without variables is its constant.
-use Rattle.std.proofs.Common.{◌≡◌, ℕ, zero, suc, ◌+◌, List, [], ◌∷◌, length, get_or, nat_lt, refl, sym, ap, ◌∙◌, add-zero, arith}
+use Rattle.std.proofs.Common.{◌≡◌, ℕ, zero, suc, ◌+◌, ◌≤◌, true, List, [], ◌∷◌, length, get_or, nat_lt, refl, sym, ap, ◌∙◌, add-zero, arith}
 use Rattle.std.specs.declared.cmp.Ordering.TheVariants.{Less, Equal}
+use Rattle.std.proofs.lemmas.Bool.Decides.{nat_tests}
 use Rattle.rinv_algebra.specs.Monomial.{same_monomial}
 use Rattle.rinv_algebra.specs.Order.{lex}
 use Rattle.rinv_algebra.specs.Residue.{residue_ops}
@@ -36,3 +37,14 @@ constant-some p c (([], a) ∷ u ∷ g) h some is =
     let tail = ordered-tail (residue_ops p) (λ a. nat_lt a p) 0 ([], a) (u ∷ g) ordered in
     let vars : length u.0 ≡ 0 = (ordered-head (residue_ops p) (λ a. nat_lt a p) 0 u g tail).vars in
     absurd (no_descent [] u.0 refl vars (descending-head ([], a) (u ∷ g) ordered.descending 0 u (omega arith)))
+
+zero-small : (p : ℕ) → 1 ≤ p → nat_lt (coefficient (residue_ops p) [] []) p ≡ true
+unfolding coefficient
+zero-small p some = grind (arith, nat_tests)
+
+-- and below the modulus
+pub constant-small : (p : ℕ) (f : Poly) → 1 ≤ p → IsNormal (residue_ops p) (λ a. nat_lt a p) 0 f → nat_lt (coefficient (residue_ops p) f []) p ≡ true
+constant-small p [] some h = zero-small p some
+constant-small p (t ∷ f) some h =
+    let is = constant-some p t.1 (t ∷ f) h (λ e. omega (arith, e)) (λ _. refl) in
+    ap (λ c. nat_lt c p) (sym is) ∙ (ordered-head (residue_ops p) (λ a. nat_lt a p) 0 t f (ordered-from_normal (residue_ops p) (λ a. nat_lt a p) 0 (t ∷ f) h)).coefficient

@@ -7,4 +7,6 @@ pub mod ListFacts
 pub mod StopFacts
 pub mod DraftFacts
 pub mod Constants
+pub mod GoodNames
+pub mod GoodLists
 pub mod Good
