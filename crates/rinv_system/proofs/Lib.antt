@@ -10,3 +10,6 @@ pub mod Constants
 pub mod GoodNames
 pub mod GoodLists
 pub mod Good
+pub mod Begun
+pub mod LineSteps
+pub mod ShortFacts

@@ -44,3 +44,8 @@ OnFault P text.NoMemory = Unit {0}
 abbrev pub line_stop : TextStop → LineStop
 line_stop (text.Fault f) = line.Fault (Text f.code)
 line_stop text.NoMemory = line.NoMemory
+
+-- the fault of a line as that of its text
+abbrev pub stop_at : ℕ → LineStop → SystemStop
+stop_at n (line.Fault c) = whole.Refused (record { line = n; code = c })
+stop_at n line.NoMemory = whole.NoMemory

@@ -5,12 +5,15 @@ mod draft;
 mod entries;
 mod entry;
 mod keyword;
+mod line;
 mod lines;
 mod listing;
 mod naming;
 mod number;
+mod read;
 mod refused;
 
 pub use keyword::{Keyword, head};
 pub use lines::{content, first_bad_line, first_line};
+pub use read::read_system;
 pub use refused::{Code, Refused, SystemStop};

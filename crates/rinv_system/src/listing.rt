@@ -5,7 +5,7 @@ ghost use Rattle.rinv_algebra.specs.Residue.{residue_ops};
 ghost use Rattle.rinv_algebra.specs.Polynomial.{coefficient};
 ghost use Rattle.rinv_algebra.specs.Normal.{IsNormal};
 ghost use Rattle.rinv_system.specs.Entries.{entries_of};
-ghost use Rattle.rinv_system.specs.Drafts.{modulus, names_for, order_fault};
+ghost use Rattle.rinv_system.specs.Drafts.{modulus, names_for, order_fault, length_fault};
 ghost use Rattle.rinv_system.specs.Forms.{IsSomeExpression, AreEntries, IsFirstFault, TellsPolynomials, IsRestRefused, IsRestTaken, with_polynomials};
 ghost use Rattle.rinv_system.specs.Stops.{OnCode, IsReached, line_stop};
 
@@ -75,8 +75,8 @@ fn constant(ring: &PolyRing<Gf>, polynomial: &KPoly) -> u32
     }
 }
 
-// The constants of polynomials without variables.
-fn constants(alloc: Global, field: Gf, list: &[KPoly]) -> Result<Vec<u32>, NoMemory>
+/// The constants of polynomials without variables.
+pub(crate) fn constants(alloc: Global, field: Gf, list: &[KPoly]) -> Result<Vec<u32>, NoMemory>
     requires { All (IsNormal (residue_ops field) (λ c. nat_lt c field) 0) list.now }
     ensures { IfOk result (λ v. v.items ≡ map (λ f. coefficient (residue_ops field) f []) list.now) }
 {
@@ -86,4 +86,51 @@ fn constants(alloc: Global, field: Gf, list: &[KPoly]) -> Result<Vec<u32>, NoMem
         found.push(constant(&ring, polynomial))?;
     }
     Ok(found)
+}
+
+// The entries on the line of a keyword as polynomials.
+fn listed(
+    alloc: Global,
+    draft: &Draft,
+    keyword: Keyword,
+    entries: &[&[u8]],
+) -> Result<Vec<KPoly>, LineStop>
+    requires tells { TellsPolynomials keyword }
+    requires order { order_fault draft.now keyword ≡ None }
+    requires reached { IsReached draft.now }
+    requires short { All (λ e. length e.now < 2 ^ 32 - 1) entries.now }
+    ensures length { IfOk result (λ _. length_fault draft.now keyword (length entries.now) ≡ None) }
+    ensures entries { IfOk result (λ fs. AreEntries (modulus draft.now) (names_for draft.now keyword) (map (λ e. e.now) entries.now) fs.items) }
+    ensures fault { IfErr result (OnCode (λ code. (rest : List ℕ) → map (λ e. e.now) entries.now ≡ entries_of rest → IsRestRefused draft.now rest keyword code)) }
+{
+    let grammatical = are_expressions(alloc, entries)?;
+    if !grammatical {
+        return Err(LineStop::Fault(Code::Text(TextCode::Expression)));
+    }
+    if let Some(code) = draft.length_fault(keyword, entries.len()) {
+        return Err(LineStop::Fault(code));
+    }
+    let names = draft.names_for(alloc, keyword)?;
+    let list = read_entries(alloc, entries, &names, &draft.field())?;
+    Ok(list)
+}
+
+/// The polynomials that the rest of the line of a keyword gives.
+pub(crate) fn read(
+    alloc: Global,
+    draft: &Draft,
+    keyword: Keyword,
+    rest: &[u8],
+) -> Result<Vec<KPoly>, LineStop>
+    requires tells { TellsPolynomials keyword }
+    requires order { order_fault draft.now keyword ≡ None }
+    requires reached { IsReached draft.now }
+    requires short { length rest.now < 2 ^ 32 - 1 }
+    ensures length { IfOk result (λ _. length_fault draft.now keyword (length (entries_of rest.now)) ≡ None) }
+    ensures entries { IfOk result (λ fs. AreEntries (modulus draft.now) (names_for draft.now keyword) (entries_of rest.now) fs.items) }
+    ensures fault { IfErr result (OnCode (IsRestRefused draft.now rest.now keyword)) }
+{
+    let entries = entries(alloc, rest)?;
+    let list = listed(alloc, draft, keyword, &entries)?;
+    Ok(list)
 }
