@@ -1,11 +1,11 @@
 -- Where polynomials may come, the first three lines have, and their names are in order.
-use Rattle.std.proofs.Common.{◌≡◌, ℕ, List, Bool, true, false, not, ◌&&◌, IsTrue, Option, Some, None, if◌then◌else◌, refl, length}
+use Rattle.std.proofs.Common.{◌≡◌, Bool, true, false, not, IsTrue, Option, Some, None, if◌then◌else◌, refl}
 use Rattle.std.specs.List.{list_any}
 use Rattle.rinv_algebra.specs.Residue.{is_listed}
 use Rattle.rinv_text.specs.Names.{meet, has_prime}
 use Rattle.rinv_system.specs.declared.keyword.Keyword.{Keyword}
 use Rattle.rinv_system.specs.declared.refused.Code.{Code}
-use Rattle.rinv_system.specs.Drafts.{Draft, modulus, group_names, space_names, has_begun, has_come, order_fault}
+use Rattle.rinv_system.specs.Drafts.{Draft, modulus, group_names, space_names, has_begun, order_fault}
 use Rattle.rinv_system.specs.Forms.{TellsPolynomials}
 use Rattle.rinv_system.specs.Stops.{IsReached}
 use Rattle.rinv_system.proofs.GoodNames.{are_names-plain, are_names-apart}

@@ -1,6 +1,6 @@
 -- A polynomial without variables is its constant.
-use Rattle.std.proofs.Common.{◌≡◌, ℕ, zero, suc, ◌+◌, ◌≤◌, true, List, [], ◌∷◌, length, get_or, nat_lt, refl, sym, ap, ◌∙◌, add-zero, arith}
-use Rattle.std.specs.declared.cmp.Ordering.TheVariants.{Less, Equal}
+use Rattle.std.proofs.Common.{◌≡◌, ℕ, suc, ◌≤◌, true, List, [], ◌∷◌, length, get_or, nat_lt, refl, sym, ap, ◌∙◌, add-zero, arith}
+use Rattle.std.specs.declared.cmp.Ordering.TheVariants.{Less}
 use Rattle.std.proofs.lemmas.Bool.Decides.{nat_tests}
 use Rattle.rinv_algebra.specs.Monomial.{same_monomial}
 use Rattle.rinv_algebra.specs.Order.{lex}
@@ -8,7 +8,7 @@ use Rattle.rinv_algebra.specs.Residue.{residue_ops}
 use Rattle.rinv_algebra.specs.Polynomial.{Term, coefficient}
 use Rattle.rinv_algebra.specs.Normal.{IsNormal}
 use Rattle.rinv_defs.specs.System.{Poly}
-use Rattle.rinv_poly.proofs.Forms.{IsNormalTerm, ordered-from_normal, ordered-head, ordered-tail, descending-head}
+use Rattle.rinv_poly.proofs.Forms.{ordered-from_normal, ordered-head, ordered-tail, descending-head}
 
 -- without terms it is zero
 pub constant-none : (p : ℕ) (f : Poly) → length f ≡ 0 → 0 ≡ coefficient (residue_ops p) f []

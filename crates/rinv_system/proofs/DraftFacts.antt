@@ -1,5 +1,5 @@
 -- The names that the polynomials of a line may have.
-use Rattle.std.proofs.Common.{◌≡◌, ℕ, List, refl, sym}
+use Rattle.std.proofs.Common.{◌≡◌, refl, sym}
 use Rattle.rinv_text.specs.Names.{copies}
 use Rattle.rinv_text.proofs.MadeNames.{suffixed-none}
 use Rattle.rinv_system.specs.declared.keyword.Keyword.{Keyword}

@@ -1,5 +1,5 @@
 -- The drafts that some lines make: the first three lines in their order, and then the others, each part in its form.
-use Rattle.std.proofs.Common.{◌≡◌, ℕ, ◌+◌, ◌*◌, ◌≤◌, List, [], ◌∷◌, ◌++◌, length, map, Bool, true, false, not, ◌&&◌, ◌==◌, IsTrue, nat_lt, nat_le, Option, Some, None, refl, sym, ap, subst, ◌∙◌, arith, length-append}
+use Rattle.std.proofs.Common.{◌≡◌, ℕ, ◌+◌, ◌*◌, ◌≤◌, List, [], length, map, true, ◌&&◌, ◌==◌, IsTrue, nat_lt, nat_le, Some, None, refl, sym, ap, ◌∙◌, arith, length-append}
 use Rattle.std.specs.List.{list_all}
 use Rattle.std.specs.Option.{IfSome}
 use Rattle.std.proofs.lemmas.Bool.Decides.{nat_tests}
@@ -10,9 +10,7 @@ use Rattle.rinv_algebra.proofs.Same.{and_true}
 use Rattle.rinv_defs.specs.System.{Poly}
 use Rattle.rinv_defs.specs.Names.{are_names}
 use Rattle.rinv_text.specs.Tokens.{number_of}
-use Rattle.rinv_text.specs.Names.{copies}
 use Rattle.rinv_system.specs.declared.keyword.Keyword.{Keyword}
-use Rattle.rinv_system.specs.declared.keyword.Keyword.TheVariants.{Field, Group, Space, Ideal, Unit as AtUnit, Product, Inverse, Action, Pairs, Steps}
 use Rattle.rinv_system.specs.declared.refused.Code.{Code}
 use Rattle.rinv_system.specs.Entries.{entries_of, words_of}
 use Rattle.rinv_system.specs.Drafts.{Draft, blank, at_most, exactly, order_fault, length_fault, names_for}
@@ -70,8 +68,17 @@ module _ (p : ℕ) (group space : List (List ℕ)) (d : Draft) (form : HasForm p
       (record { listed = form.listed; group_form = form.group_form; space_form = form.space_form; ideal = and_true (nat_le (length fs) 64) (are_normal p (length group) fs) (ap (λ n. nat_le n 64) (AreEntries-length are) ∙ at_most-none 64 _ few) (AreEntries-normal are); unit = form.unit; product = form.product; inverse = form.inverse; action = form.action })
   polynomials-good fs TellsPolynomials.unit_line right are =
       IsGood.begun p group space (record d { unit = Some (map (λ f. coefficient (residue_ops p) f []) fs) })
-      (record { listed = form.listed; group_form = form.group_form; space_form = form.space_form; ideal = form.ideal; unit = and_true _ _ (ap (λ n. n == length group) (length-map fs (λ f. coefficient (residue_ops p) f []) ∙ AreEntries-length are) ∙ exactly-none (length group) _ right)
-          (constants-small p fs (listed-some p form.listed) (AreEntries-normal are)); product = form.product; inverse = form.inverse; action = form.action })
+      (record {
+        listed = form.listed;
+        group_form = form.group_form;
+        space_form = form.space_form;
+        ideal = form.ideal;
+        unit = and_true _ _ (ap (λ n. n == length group) (length-map fs (λ f. coefficient (residue_ops p) f []) ∙ AreEntries-length are) ∙ exactly-none (length group) _ right)
+            (constants-small p fs (listed-some p form.listed) (AreEntries-normal are));
+        product = form.product;
+        inverse = form.inverse;
+        action = form.action;
+      })
   polynomials-good fs TellsPolynomials.product_line right are =
       IsGood.begun p group space (record d { product = Some fs }) (record { listed = form.listed; group_form = form.group_form; space_form = form.space_form; ideal = form.ideal; unit = form.unit; product = so_many (length group) (2 * length group) (length-two_copies group) right are; inverse = form.inverse; action = form.action })
   polynomials-good fs TellsPolynomials.inverse_line right are =

@@ -1,11 +1,11 @@
 -- The polynomials that lines give, as those of a system.
-use Rattle.std.proofs.Common.{◌≡◌, ℕ, suc, ◌+◌, ◌*◌, ◌<◌, ◌≤◌, List, [], ◌∷◌, ◌++◌, length, map, replicate, Bool, true, false, ◌&&◌, ◌==◌, nat_lt, nat_le, Option, Some, None, IsTrue, if◌then◌else◌, refl, sym, ap, subst, ◌∙◌, arith, length-append}
+use Rattle.std.proofs.Common.{◌≡◌, ℕ, suc, ◌+◌, ◌*◌, ◌≤◌, List, [], ◌∷◌, ◌++◌, length, map, Bool, true, false, ◌&&◌, ◌==◌, nat_lt, nat_le, Some, None, if◌then◌else◌, refl, ap, ◌∙◌, arith, length-append}
 use Rattle.std.specs.List.{list_all}
 use Rattle.std.proofs.lemmas.Bool.Decides.{nat_tests}
 use Rattle.std.proofs.lemmas.List.{length-map}
-use Rattle.rinv_algebra.specs.Residue.{is_listed, residue_ops}
+use Rattle.rinv_algebra.specs.Residue.{residue_ops}
 use Rattle.rinv_algebra.specs.Polynomial.{coefficient}
-use Rattle.rinv_algebra.specs.Normal.{is_normal, IsNormal}
+use Rattle.rinv_algebra.specs.Normal.{is_normal}
 use Rattle.rinv_algebra.proofs.Same.{both, and_true}
 use Rattle.rinv_defs.specs.System.{Poly}
 use Rattle.rinv_text.specs.Names.{copies, suffixed}

@@ -1,11 +1,11 @@
 -- The names that lines give, as names of a system.
-use Rattle.std.proofs.Common.{◌≡◌, ℕ, suc, ◌+◌, ◌≤◌, List, [], ◌∷◌, ◌++◌, length, map, Bool, true, false, not, ◌&&◌, ◌||◌, ◌==◌, IsTrue, bytes_eq, if◌then◌else◌, refl, sym, ap, subst, ◌∙◌, arith}
+use Rattle.std.proofs.Common.{◌≡◌, ℕ, ◌≤◌, List, [], ◌∷◌, ◌++◌, length, Bool, true, false, not, ◌&&◌, ◌||◌, ◌==◌, bytes_eq, if◌then◌else◌, refl, sym, ap, subst, ◌∙◌, arith}
 use Rattle.std.specs.List.{list_all, list_any}
 use Rattle.std.proofs.lemmas.Bool.Decides.{nat_tests}
 use Rattle.std.proofs.lemmas.List.{length-map}
 use Rattle.std.proofs.lemmas.List.Folds.{list_any-append}
 use Rattle.rinv_algebra.proofs.Same.{both}
-use Rattle.rinv_defs.specs.Names.{is_letter, is_digit, is_plain_name, is_symbol, are_names}
+use Rattle.rinv_defs.specs.Names.{is_letter, is_plain_name, is_symbol, are_names}
 use Rattle.rinv_text.specs.Tokens.{is_name_byte}
 use Rattle.rinv_text.specs.Names.{is_new_name, meet, has_prime}
 use Rattle.rinv_text.proofs.NamesInTurn.{are_names-push}

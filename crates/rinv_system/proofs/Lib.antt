@@ -13,3 +13,4 @@ pub mod Good
 pub mod Begun
 pub mod LineSteps
 pub mod ShortFacts
+pub mod ReadFacts

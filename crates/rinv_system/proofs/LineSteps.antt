@@ -11,7 +11,7 @@ use Rattle.rinv_text.specs.Tokens.{number_of}
 use Rattle.rinv_system.specs.declared.keyword.Keyword.{Keyword}
 use Rattle.rinv_system.specs.declared.keyword.Keyword.TheVariants.{Field, Group, Space, Ideal, Unit as AtUnit, Product, Inverse, Action, Pairs, Steps}
 use Rattle.rinv_system.specs.Entries.{entries_of}
-use Rattle.rinv_system.specs.Drafts.{Draft, modulus, group_names, names_for, length_fault}
+use Rattle.rinv_system.specs.Drafts.{Draft, modulus, names_for, length_fault}
 use Rattle.rinv_system.specs.Forms.{TellsNumber, TellsNames, TellsPolynomials, AreEntries, IsRestTaken, with_number, with_polynomials, is_number_for}
 use Rattle.rinv_system.specs.Stops.{IsNumberFor}
 use Rattle.rinv_system.proofs.GoodLists.{AreEntries-normal}

@@ -1,5 +1,4 @@
 -- What is known of a fault, said of another property.
-use Rattle.std.proofs.Common.{ℕ, List}
 use Rattle.rinv_system.specs.declared.refused.Code.{Code}
 use Rattle.rinv_system.specs.declared.refused.LineStop.{LineStop}
 use Rattle.rinv_system.specs.declared.refused.LineStop.TheVariants.{Fault, NoMemory}

@@ -1,5 +1,5 @@
 -- What the lines so far told, and which line may come next.
-use Rattle.std.specs.Prelude.{ℕ, List, [], ◌++◌, length, Bool, true, false, not, ◌&&◌, ◌||◌, ◌==◌, nat_lt, if◌then◌else◌, Option, Some, None, unwrap_or}
+use Rattle.std.specs.Prelude.{ℕ, List, [], ◌++◌, length, Bool, not, ◌&&◌, ◌||◌, ◌==◌, nat_lt, if◌then◌else◌, Option, Some, None, unwrap_or}
 use Rattle.std.specs.Option.{is_some}
 use Rattle.rinv_defs.specs.System.{Poly}
 use Rattle.rinv_text.specs.declared.fault.TextCode.TheVariants.{Limit}

@@ -1,5 +1,5 @@
 -- Lists with commas, names and numbers, as the rest of a line has them.
-use Rattle.std.specs.Prelude.{ℕ, List, [], ◌∷◌, length, map, Bool, false, ◌&&◌, ◌||◌, ◌==◌, nat_lt, if◌then◌else◌}
+use Rattle.std.specs.Prelude.{ℕ, List, [], ◌∷◌, length, map, Bool, false, ◌&&◌, ◌==◌, nat_lt, if◌then◌else◌}
 use Rattle.std.specs.List.{list_all}
 use Rattle.rinv_defs.specs.Names.{is_letter, is_digit}
 use Rattle.rinv_text.specs.Tokens.{is_name_byte}

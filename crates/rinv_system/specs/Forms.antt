@@ -1,11 +1,10 @@
 -- What the rest of a line tells after the lines so far, and how it is refused.
-use Rattle.std.specs.Prelude.{◌≡◌, ℕ, ◌<◌, ◌≤◌, ◌^◌, List, [], ◌∷◌, ◌++◌, length, All, Any, IsTrue, IsFalse, Bool, false, nat_lt, nat_le, map, Option, Some, None}
+use Rattle.std.specs.Prelude.{◌≡◌, ℕ, ◌<◌, ◌≤◌, ◌^◌, List, [], ◌∷◌, ◌++◌, length, All, Any, IsTrue, IsFalse, Bool, false, nat_lt, nat_le, map, Some, None}
 use Rattle.std.specs.List.{list_all}
 use Rattle.rinv_algebra.specs.Residue.{is_listed, residue_ops}
 use Rattle.rinv_algebra.specs.Polynomial.{coefficient}
 use Rattle.rinv_algebra.specs.Normal.{IsNormal}
 use Rattle.rinv_defs.specs.System.{Poly}
-use Rattle.rinv_ring.specs.declared.modulus.FieldFault.{FieldFault}
 use Rattle.rinv_ring.specs.declared.modulus.FieldFault.TheVariants.{TooSmall, TooLarge, NotListed}
 use Rattle.rinv_text.specs.declared.fault.TextFault.{TextFault}
 use Rattle.rinv_text.specs.declared.fault.TextCode.TheVariants.{Expression, Name, Limit}
@@ -18,7 +17,7 @@ use Rattle.rinv_system.specs.declared.keyword.Keyword.TheVariants.{Field, Group,
 use Rattle.rinv_system.specs.declared.refused.Code.{Code}
 use Rattle.rinv_system.specs.declared.refused.Code.TheVariants.{Field as InField, Text}
 use Rattle.rinv_system.specs.Entries.{entries_of, words_of, is_name_word, is_numeral}
-use Rattle.rinv_system.specs.Drafts.{Draft, modulus, group_names, space_names, names_for, length_fault}
+use Rattle.rinv_system.specs.Drafts.{Draft, modulus, group_names, names_for, length_fault}
 
 -- ---- a number
 

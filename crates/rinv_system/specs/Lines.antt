@@ -1,5 +1,5 @@
 -- The lines of a text, and what stands on each: without the carriage return, the comment and the blanks at both ends.
-use Rattle.std.specs.Prelude.{ℕ, List, [], ◌∷◌, Bool, not, ◌||◌, ◌==◌, if◌then◌else◌, reverse, drop, map, Option}
+use Rattle.std.specs.Prelude.{ℕ, List, [], ◌∷◌, Bool, not, ◌||◌, ◌==◌, if◌then◌else◌, reverse, drop, Option}
 use Rattle.std.specs.List.{list_all, position_from, take_while, position_or_len}
 use Rattle.rinv_defs.specs.Names.{is_between}
 

@@ -1,5 +1,5 @@
 -- The system that a text denotes, or the line at which it is refused and the code.
-use Rattle.std.specs.Prelude.{◌≡◌, ℕ, ◌+◌, List, [], ◌∷◌, ◌++◌, length, map, IsTrue, IsFalse, Option, Some, None, unwrap_or}
+use Rattle.std.specs.Prelude.{◌≡◌, ℕ, ◌+◌, List, [], ◌∷◌, ◌++◌, length, map, IsTrue, IsFalse, Some, None, unwrap_or}
 use Rattle.rinv_defs.specs.System.{System}
 use Rattle.rinv_text.specs.Told.{Told}
 use Rattle.rinv_system.specs.declared.keyword.Keyword.{Keyword}
@@ -9,7 +9,7 @@ use Rattle.rinv_system.specs.declared.refused.Refused.{Refused}
 use Rattle.rinv_system.specs.Lines.{lines_of, first_bad_line, content_of}
 use Rattle.rinv_system.specs.Words.{head_of}
 use Rattle.rinv_system.specs.Drafts.{Draft, blank, modulus, group_names, space_names, order_fault, is_whole}
-use Rattle.rinv_system.specs.Forms.{IsRestRefused, IsRestTaken, max_pairs, max_steps}
+use Rattle.rinv_system.specs.Forms.{IsRestRefused, IsRestTaken}
 
 -- what stands on a line is refused: its word, its place among the lines, or its rest
 pub data IsLineRefused (d : Draft) (line : List ℕ) : Code → Type 0 where

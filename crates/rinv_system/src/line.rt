@@ -9,10 +9,8 @@ ghost use Rattle.rinv_system.specs.Stops.{OnCode, IsReached};
 
 use crate::draft::Draft;
 use crate::keyword::{Keyword, head};
-use crate::listing;
-use crate::naming;
-use crate::number;
 use crate::refused::{Code, LineStop};
+use crate::{listing, naming, number};
 use rinv_text::Names;
 use std::alloc::Global;
 
@@ -76,12 +74,7 @@ fn with_polynomials(
 }
 
 // With what the rest of a line is.
-fn with_rest(
-    alloc: Global,
-    draft: Draft,
-    keyword: Keyword,
-    rest: &[u8],
-) -> Result<Draft, LineStop>
+fn with_rest(alloc: Global, draft: Draft, keyword: Keyword, rest: &[u8]) -> Result<Draft, LineStop>
     requires order { order_fault draft keyword ≡ None }
     requires reached { IsReached draft }
     requires short { length rest.now < 2 ^ 32 - 1 }

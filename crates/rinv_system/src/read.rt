@@ -15,6 +15,7 @@ use std::alloc::Global;
 
 // The greatest numbers of pairs and of steps, where the text does not give them.
 const PAIRS: u32 = 10_000;
+
 const STEPS: u64 = 10_000_000;
 
 // The system of a draft, if all the lines that are needed have come.

@@ -1,4 +1,4 @@
-use Rattle.std.proofs.Common.{ap, ◌==◌, ◌≤◌, ◌∙◌, not, length, subst, sym, unwrap_or}
+use Rattle.std.proofs.Common.{ap, ◌≤◌, ◌∙◌, not, length, subst, sym, unwrap_or}
 use Rattle.rinv_system.specs.Lines.{is_blank}
 use Rattle.rinv_system.proofs.LineFacts.{unwrap_or-position, position_or_len-le}
 use Rattle.rinv_system.proofs.lines.blanks_before.Goals as goal

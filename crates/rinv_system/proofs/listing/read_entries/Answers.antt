@@ -1,7 +1,6 @@
 use Rattle.std.proofs.Common.{sym, subst}
 use Rattle.rinv_system.specs.Forms.{AreEntries}
 use Rattle.rinv_system.proofs.ListFacts.{AreEntries-more, IsFirstFault-at}
-use Rattle.rinv_system.proofs.Mapped.{mapped_all}
 use Rattle.rinv_system.proofs.listing.read_entries.Goals as goal
 
 pub entries-init : goal.entries-init

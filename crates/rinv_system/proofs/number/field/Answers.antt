@@ -1,5 +1,4 @@
 use Rattle.std.proofs.Common.{sym, ◌∙◌}
-use Rattle.rinv_system.specs.declared.keyword.Keyword.TheVariants as keyword
 use Rattle.rinv_system.specs.Forms.{IsRestRefused, IsFieldFault, TellsNumber}
 use Rattle.rinv_system.proofs.NumberFacts.{capped, modulus-refused}
 use Rattle.rinv_system.proofs.number.field.Goals as goal

@@ -1,4 +1,3 @@
-use Rattle.std.proofs.Common.{inl, inr}
 use Rattle.rinv_system.proofs.NumberFacts.{pairs-refused}
 use Rattle.rinv_system.proofs.number.pairs.Goals as goal
 

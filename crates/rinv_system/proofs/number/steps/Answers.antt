@@ -1,4 +1,3 @@
-use Rattle.std.proofs.Common.{inl, inr}
 use Rattle.rinv_system.proofs.NumberFacts.{steps-refused}
 use Rattle.rinv_system.proofs.number.steps.Goals as goal
 
