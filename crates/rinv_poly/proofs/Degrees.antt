@@ -24,7 +24,7 @@ module _ {E : Type 0} (o : RingOps E) (l : RingLaws o) where
   ]
 
   -- a bound of the degrees of all terms is one of the degree
-  degree-terms : (f : Polynomial E) (n : ℕ) → All (λ t. total_degree t.0 ≤ n) f → degree o f ≤ n
+  pub degree-terms : (f : Polynomial E) (n : ℕ) → All (λ t. total_degree t.0 ≤ n) f → degree o f ≤ n
   degree-terms f n all = degree-bound o l f n (λ m has. elim (searched m f) [
     | inl there ↦
         let d : Term E = (m, o.zero) in

@@ -5,11 +5,12 @@ use Rattle.std.proofs.lemmas.List.Elements.{All-cons}
 use Rattle.rinv_defs.specs.System.{Poly}
 use Rattle.rinv_text.specs.declared.fault.TextStop.{TextStop}
 use Rattle.rinv_text.specs.declared.fault.TextStop.TheVariants.{Fault, NoMemory}
+use Rattle.rinv_text.specs.Faults.{OnFault}
 use Rattle.rinv_text.specs.Tokens.{tokens}
 use Rattle.rinv_text.specs.Grammar.{Tree}
 use Rattle.rinv_text.specs.Stops.{IsExpression, IsRefused, refusal}
 use Rattle.rinv_system.specs.Forms.{IsEntry, AreEntries, IsFirstFault}
-use Rattle.rinv_system.specs.Stops.{OnCode, OnFault, line_stop}
+use Rattle.rinv_system.specs.Stops.{OnCode, line_stop}
 use Rattle.rinv_system.proofs.Mapped.{mapped_more, mapped_split}
 
 module _ (p : ℕ) (names : List (List ℕ)) where

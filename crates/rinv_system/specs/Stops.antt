@@ -1,6 +1,5 @@
 -- What the answers of the reader say.
 use Rattle.std.specs.Prelude.{◌≡◌, ℕ, List, IsTrue}
-use Rattle.rinv_text.specs.declared.fault.TextFault.{TextFault}
 use Rattle.rinv_text.specs.declared.fault.TextStop.{TextStop}
 use Rattle.rinv_text.specs.declared.fault.TextStop.TheVariants as text
 use Rattle.rinv_text.specs.Tokens.{number_of}
@@ -34,11 +33,6 @@ IsNumberFor k rest n = (n ≡ number_of rest) × IsTrue (is_numeral rest) × IsT
 -- some lines make the draft
 abbrev pub IsReached : Draft → Type 0
 IsReached d = (lines : List (List ℕ)) × AreTaken blank lines d
-
--- the fault of a text has the property
-abbrev pub OnFault : (TextFault → Type 0) → TextStop → Type 0
-OnFault P (text.Fault f) = P f
-OnFault P text.NoMemory = Unit {0}
 
 -- the fault of an entry as that of its line
 abbrev pub line_stop : TextStop → LineStop

@@ -3,7 +3,6 @@
 
 mod draft;
 mod entries;
-mod entry;
 mod keyword;
 mod line;
 mod lines;

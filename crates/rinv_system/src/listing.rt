@@ -11,12 +11,11 @@ ghost use Rattle.rinv_system.specs.Stops.{OnCode, IsReached, line_stop};
 
 use crate::draft::Draft;
 use crate::entries::entries;
-use crate::entry::{is_expression, read_entry};
 use crate::keyword::Keyword;
 use crate::refused::{Code, LineStop};
 use rinv_poly::{KPoly, PolyRing};
 use rinv_ring::Gf;
-use rinv_text::{Names, TextCode, TextStop};
+use rinv_text::{Names, TextCode, TextStop, is_expression, read_bytes};
 use std::alloc::{AllocError as NoMemory, Global};
 
 // Whether each entry is an expression.
@@ -55,7 +54,7 @@ fn read_entries(
 {
     let mut found = Vec::new(alloc);
     'entries: for entry in entries {
-        match read_entry(alloc, entry, names, field) {
+        match read_bytes(alloc, entry, names, field) {
             Ok(polynomial) => found.push(polynomial)?,
             Err(stop) => return Err(line_stop(stop)),
         }

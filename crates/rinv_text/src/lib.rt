@@ -3,13 +3,24 @@
 
 mod fault;
 mod form;
+pub mod laws;
+mod limits;
 mod names;
 mod parser;
+mod partial;
+mod polynomial;
+mod reading;
+mod size;
 mod step;
 mod system;
+mod terms;
 mod token;
+mod tokens;
+mod value;
 
 pub use fault::{TextCode, TextFault, TextStop};
 pub use form::{has_name_form, is_digit, is_letter};
 pub use names::Names;
+pub use polynomial::{write_poly, written};
+pub use reading::{is_expression, read_bytes, read_poly};
 pub use system::System;

@@ -10,4 +10,4 @@ pub returns-in-Err-clause-fault : goal.returns-in-Err-clause-fault
 returns-in-Err-clause-fault c = rw c.line_stop.ensures (IsFirstFault-at c.args.field.now c.args.names.now (λ e. e.now) c.args.entries.now c.entries.entry-index _ c.entries.found.items c.in-Err.stop c.entries-test.true c.entries.invariant c.in-Err.ensures.fault)
 
 pub entries-preserved : goal.entries-preserved
-entries-preserved c = AreEntries-more c.args.field.now c.args.names.now (λ e. e.now) c.args.entries.now c.entries.entry-index _ c.in-Ok.polynomial c.entries.found.items _ c.entries-test.true c.entries.invariant c.in-Ok.ensures.ok c.in_ok-push-in-Ok.ensures.items
+entries-preserved c = AreEntries-more c.args.field.now c.args.names.now (λ e. e.now) c.args.entries.now c.entries.entry-index _ c.in-Ok.polynomial c.entries.found.items _ c.entries-test.true c.entries.invariant (record { denotes = c.in-Ok.ensures.value; normal = c.in-Ok.ensures.normal }) c.in_ok-push-in-Ok.ensures.items
