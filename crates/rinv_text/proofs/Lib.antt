@@ -1,6 +1,11 @@
 pub mod Runs
 pub mod Complete
 pub mod Reached
+pub mod NamesInTurn
+mod Keys
+mod Absent
+pub mod MadeNames
+mod WordsInTurn
 pub mod Sound
 pub mod Parses
 pub mod Postfix
@@ -12,9 +17,6 @@ pub mod Tokenwise
 pub mod Prefixes
 pub mod Digits
 pub mod Places
-pub mod NamesInTurn
-mod Keys
-mod Absent
 mod MadeNames
 pub mod WordsInTurn
 pub mod Joined
@@ -38,3 +40,4 @@ pub mod Powers
 pub mod Piles
 pub mod Read
 pub mod Denoted
+pub mod Expressions

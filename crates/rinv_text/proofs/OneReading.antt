@@ -26,7 +26,7 @@ module _ (names : List (List ℕ)) (text : List ℕ) where
   derived-answer t d = parsed-derived (literal_of 2) (place_of names) (length text) (tokens text) t d
 
   -- a malformed text is no expression
-  not-malformed : {A : Type 0} (k : ℕ) (t : Tree) → IsMalformed text k → IsExpression text t → A
+  pub not-malformed : {A : Type 0} (k : ℕ) (t : Tree) → IsMalformed text k → IsExpression text t → A
   not-malformed k t m d =
       let clash : Err k ≡ Ok (steps_of (literal_of 2) (place_of names) t) = sym (malformed-answer k m) ∙ derived-answer t d in
       cc

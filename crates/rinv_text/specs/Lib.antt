@@ -6,11 +6,12 @@ pub mod Faults
 pub mod Stops
 pub mod Images
 pub mod Automaton
+pub mod Names
 pub mod Evaluation
+pub mod Told
 pub mod Sizes
 pub mod Sightings
 pub mod Values
 pub mod Meanings
-pub mod Names
 pub mod Pieces
 pub mod Printed

@@ -15,6 +15,7 @@ mod reading;
 mod reading_tests;
 mod size;
 mod step;
+mod system;
 mod terms;
 #[cfg(test)]
 mod tests;
@@ -23,8 +24,9 @@ mod tokens;
 mod value;
 
 pub use fault::{TextCode, TextFault, TextStop};
-pub use form::has_name_form;
+pub use form::{has_name_form, is_digit, is_letter};
 pub use fraction::write_fraction;
 pub use names::Names;
 pub use polynomial::{write_poly, written};
-pub use reading::read_poly;
+pub use reading::{is_expression, read_bytes, read_poly};
+pub use system::System;

@@ -1,11 +1,12 @@
 //! From a text to the polynomial that it denotes, or to its first fault.
 
-ghost use Rattle.std.specs.Prelude.{◌≡◌, ◌<◌, ◌-◌, ◌^◌, ℕ, List, length, IfOk, IfErr, nat_lt};
+ghost use Rattle.std.specs.Prelude.{◌≡◌, ◌<◌, ◌-◌, ◌^◌, ℕ, List, length, MatchBool, IfOk, IfErr, nat_lt};
 ghost use Rattle.rinv_algebra.specs.Residue.{residue_ops};
 ghost use Rattle.rinv_algebra.specs.Normal.{IsNormal};
 ghost use Rattle.rinv_text.specs.Faults.{OnFault};
 ghost use Rattle.rinv_text.specs.Sightings.{first_place, excess_of, fault_of, IsRead};
-ghost use Rattle.rinv_text.specs.Stops.{Denotes, IsRefused};
+ghost use Rattle.rinv_text.specs.Grammar.{Tree};
+ghost use Rattle.rinv_text.specs.Stops.{Denotes, IsExpression, IsRefused};
 
 use crate::fault::{TextCode, TextFault, TextStop};
 use crate::limits::{first_unknown, is_past_limit};
@@ -96,20 +97,45 @@ fn accepted(
     }
 }
 
-/// The polynomial over the field that the text denotes, in the variables with these names; or the first fault of the text: it is no
+/// The polynomial over the field that the bytes of a text denote, in the variables with these names; or the first fault of the text: it is no
 /// expression; a name in it is not known; a number is 2^128 or more, or parentheses stand more than 100 deep; an exponent or a formal
 /// degree is over 64; a part has more than 1,000,000 formal terms. The place is a number of bytes from the start of the text: that of
 /// the first token that no expression has there, of the name, or of the first token.
+pub fn read_bytes(alloc: Global, bytes: &[u8], names: &Names, field: &Gf) -> Result<KPoly, TextStop>
+    requires { length bytes.now < 2 ^ 32 - 1 }
+    ensures normal { IfOk result (IsNormal (residue_ops field.now) (λ c. nat_lt c field.now) (length names.now)) }
+    ensures value { IfOk result (Denotes field.now names.now bytes.now) }
+    ensures fault { IfErr result (OnFault (IsRefused names.now bytes.now)) }
+{
+    let tokens = read_tokens(alloc, bytes, names, field)?;
+    match parse(alloc, &tokens, bytes.len() as u32) {
+        Ok(steps) => accepted(alloc, &tokens, &steps, names, field),
+        Err(stop) => Err(stop),
+    }
+}
+
+/// The polynomial that the text denotes, as `read_bytes` reads it.
 pub fn read_poly(alloc: Global, text: &str, names: &Names, field: &Gf) -> Result<KPoly, TextStop>
     requires { length text.now < 2 ^ 32 - 1 }
     ensures normal { IfOk result (IsNormal (residue_ops field.now) (λ c. nat_lt c field.now) (length names.now)) }
     ensures value { IfOk result (Denotes field.now names.now text.now) }
     ensures fault { IfErr result (OnFault (IsRefused names.now text.now)) }
 {
-    let bytes = text.as_bytes();
-    let tokens = read_tokens(alloc, bytes, names, field)?;
+    read_bytes(alloc, text.as_bytes(), names, field)
+}
+
+/// Whether the bytes of a text are an expression, refused or not.
+pub fn is_expression(alloc: Global, bytes: &[u8]) -> Result<bool, NoMemory>
+    requires { length bytes.now < 2 ^ 32 - 1 }
+    ensures { IfOk result (λ b. MatchBool b ((t : Tree) × IsExpression bytes.now t) (¬ ((t : Tree) × IsExpression bytes.now t))) }
+{
+    let Ok(field) = Gf::new(2) else {
+        unreachable!()
+    };
+    let tokens = read_tokens(alloc, bytes, &Names::empty(alloc), &field)?;
     match parse(alloc, &tokens, bytes.len() as u32) {
-        Ok(steps) => accepted(alloc, &tokens, &steps, names, field),
-        Err(stop) => Err(stop),
+        Ok(_) => Ok(true),
+        Err(TextStop::Fault(_)) => Ok(false),
+        Err(TextStop::NoMemory) => Err(NoMemory),
     }
 }

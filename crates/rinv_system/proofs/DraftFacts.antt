@@ -1,0 +1,14 @@
+-- The names that the polynomials of a line may have.
+use Rattle.std.proofs.Common.{◌≡◌, refl, sym}
+use Rattle.rinv_text.specs.Names.{copies}
+use Rattle.rinv_text.proofs.MadeNames.{suffixed-none}
+use Rattle.rinv_system.specs.declared.keyword.Keyword.{Keyword}
+use Rattle.rinv_system.specs.declared.keyword.Keyword.TheVariants.{Unit as AtUnit, Product, Action}
+use Rattle.rinv_system.specs.Drafts.{Draft, group_names, names_for}
+
+-- most lines have the group's names
+pub names_for-others : (d : Draft) (k : Keyword) → (k ≡ AtUnit → ⊥) → (k ≡ Product → ⊥) → (k ≡ Action → ⊥) → names_for d k ≡ copies 1 (group_names d)
+names_for-others d AtUnit u p a = absurd (u refl)
+names_for-others d Product u p a = absurd (p refl)
+names_for-others d Action u p a = absurd (a refl)
+names_for-others d k u p a = sym (suffixed-none (group_names d))

@@ -1,0 +1,16 @@
+mod LineFacts
+pub mod EntryFacts
+pub mod NumberFacts
+pub mod Mapped
+pub mod NameFacts
+pub mod ListFacts
+pub mod StopFacts
+pub mod DraftFacts
+pub mod Constants
+pub mod GoodNames
+pub mod GoodLists
+pub mod Good
+pub mod Begun
+pub mod LineSteps
+pub mod ShortFacts
+pub mod ReadFacts
