@@ -1,4 +1,3 @@
-pub mod EarlierNames
 pub mod StoredLists
 pub mod StoredPolynomials
 pub mod FirstPart

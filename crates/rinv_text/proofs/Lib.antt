@@ -10,3 +10,20 @@ pub mod Sound
 pub mod Parses
 pub mod Postfix
 pub mod Malformed
+pub mod Words
+pub mod Unambiguous
+pub mod OneReading
+pub mod Tokenwise
+pub mod Prefixes
+pub mod Digits
+pub mod Places
+pub mod Joined
+mod TermsInTurn
+mod Descending
+mod SortedMonomials
+mod DescendingTerms
+pub mod Lexing
+pub mod Caps
+pub mod Stepwise
+pub mod Judged
+pub mod Seen

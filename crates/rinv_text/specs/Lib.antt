@@ -2,9 +2,14 @@ pub mod Tokens
 pub mod Grammar
 pub mod Formal
 pub mod Reading
+pub mod Faults
 pub mod Stops
 pub mod Images
 pub mod Automaton
 pub mod Names
 pub mod Evaluation
 pub mod Told
+pub mod Sizes
+pub mod Sightings
+pub mod Pieces
+pub mod Printed

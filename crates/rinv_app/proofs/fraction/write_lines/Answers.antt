@@ -2,7 +2,7 @@ use Rattle.std.proofs.Common.{◌+◌, take, ◌∙◌, ◌++◌, List, ℕ, ap,
 use Rattle.rinv_defs.specs.Invariant.{Fraction}
 use Rattle.rinv_defs.specs.Text.{fraction_lines}
 use Rattle.rinv_app.specs.Pieces.{fraction_line}
-use Rattle.rinv_app.proofs.Joined.{append-step}
+use Rattle.rinv_text.proofs.Joined.{append-step}
 use Rattle.rinv_app.proofs.Lines.{fraction_lines-nil, fraction_lines-take_more}
 use Rattle.rinv_app.proofs.fraction.write_lines.Goals as goal
 

@@ -1,0 +1,10 @@
+use Rattle.std.proofs.Common.{◌≡◌, [], All, drop, reverse}
+use Rattle.rinv_text.specs.Evaluation.{evaluate}
+use Rattle.rinv_text.specs.Sizes.{sizes, IsSize}
+use Rattle.rinv_text.proofs.size.size_of.Given as goal
+
+abbrev pub invariant-loop-step : goal.invariant-loop-step
+invariant-loop-step l = record {
+  all : All IsSize l.stack.items;
+  rest : evaluate sizes l.steps [] ≡ evaluate sizes (drop l.step-index l.steps) (reverse l.stack.items);
+}
