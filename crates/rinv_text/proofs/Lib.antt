@@ -27,3 +27,8 @@ pub mod Caps
 pub mod Stepwise
 pub mod Judged
 pub mod Seen
+pub mod PrintedTokens
+pub mod PrintedPhrases
+pub mod PrintedTerms
+pub mod PrintedOrder
+pub mod PrintedSums

@@ -13,3 +13,4 @@ pub mod Sizes
 pub mod Sightings
 pub mod Pieces
 pub mod Printed
+pub mod Printable
