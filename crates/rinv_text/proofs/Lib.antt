@@ -28,6 +28,7 @@ pub mod Stepwise
 pub mod Judged
 pub mod Seen
 pub mod PrintedTokens
+pub mod PrintedBytes
 pub mod PrintedPhrases
 pub mod PrintedTerms
 pub mod PrintedOrder

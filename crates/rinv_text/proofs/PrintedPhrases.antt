@@ -15,7 +15,8 @@ use Rattle.rinv_text.specs.Grammar.{Tree, number, name, sum, product, power, Lev
 use Rattle.rinv_text.specs.Formal.{formal_degree, formal_terms, some_part, is_high, is_long}
 use Rattle.rinv_text.specs.Reading.{value, place_of, to_the}
 use Rattle.rinv_text.specs.Stops.{Denotes, first_unknown, is_past_limit, refusal}
-use Rattle.rinv_text.proofs.PrintedTokens.{Front, IsNumberText, number-front, word-front, between, spaced, front-whole}
+use Rattle.rinv_text.proofs.PrintedBytes.{IsSolid, solid-between, number-solid, word-solid}
+use Rattle.rinv_text.proofs.PrintedTokens.{blank-read, Front, IsNumberText, number-front, word-front, between, spaced, front-whole}
 
 -- a token that is known, within the limits, and no parenthesis
 abbrev pub is_plain : List (List ℕ) → Token → Bool
@@ -88,6 +89,7 @@ module _ (p : ℕ) (names : List (List ℕ)) where
     pub terms : formal_terms tree ≡ n
     pub low : is_high tree ≡ false
     pub few : is_long tree ≡ false
+    pub solid : IsSolid s
 
   abbrev o : RingOps ℕ
   o = residue_ops p
@@ -108,24 +110,37 @@ module _ (p : ℕ) (names : List (List ℕ)) where
         same = h.is;
       }
 
+  -- the same behind a blank
+  pub phrase-behind : (s : List ℕ) (f : Polynomial ℕ) (d n : ℕ) → Phrase expression s f d n → Denotes p names (32 ∷ s) f
+  unfolding refusal
+  phrase-behind s f d n h =
+      let read : kinds (tokens (32 ∷ s)) ≡ h.tokens = front-whole (32 ∷ s) h.tokens (λ ts us ended rest. blank-read 32 refl (s ++ ts) (h.tokens ++ us) (h.front ts us ended rest)) in
+      let plain : list_all (is_plain names) (kinds (tokens (32 ∷ s))) ≡ true = ap (list_all (is_plain names)) read ∙ h.plain in
+      record {
+        tree = h.tree;
+        derived = subst (λ ks. Derives expression ks h.tree) (sym read) h.derives;
+        accepted = rw (plain-known names (tokens (32 ∷ s)) plain, plain-within names (kinds (tokens (32 ∷ s))) plain, h.low, h.few) refl;
+        same = h.is;
+      }
+
   -- ---- the value and the degree in another form
 
   pub phrase-same : (level : Level) (s : List ℕ) (f g : Polynomial ℕ) (d n : ℕ) → IsSame (poly_ops (residue_ops p)) g f → Phrase level s f d n → Phrase level s g d n
-  phrase-same level s f g d n e h = record { tokens = h.tokens; tree = h.tree; front = h.front; plain = h.plain; derives = h.derives; is = same-then o l g f (value p names h.tree) e h.is; degree = h.degree; terms = h.terms; low = h.low; few = h.few }
+  phrase-same level s f g d n e h = record { tokens = h.tokens; tree = h.tree; front = h.front; plain = h.plain; derives = h.derives; is = same-then o l g f (value p names h.tree) e h.is; degree = h.degree; terms = h.terms; low = h.low; few = h.few; solid = h.solid }
 
   pub phrase-lower : (level : Level) (s : List ℕ) (f : Polynomial ℕ) (d e n : ℕ) → d ≤ e → Phrase level s f d n → Phrase level s f e n
-  phrase-lower level s f d e n le h = record { tokens = h.tokens; tree = h.tree; front = h.front; plain = h.plain; derives = h.derives; is = h.is; degree = omega (arith, le, h.degree); terms = h.terms; low = h.low; few = h.few }
+  phrase-lower level s f d e n le h = record { tokens = h.tokens; tree = h.tree; front = h.front; plain = h.plain; derives = h.derives; is = h.is; degree = omega (arith, le, h.degree); terms = h.terms; low = h.low; few = h.few; solid = h.solid }
 
   -- ---- one level as the next
 
   pub as-factor : (s : List ℕ) (f : Polynomial ℕ) (d n : ℕ) → Phrase atom s f d n → Phrase factor s f d n
-  as-factor s f d n h = record { tokens = h.tokens; tree = h.tree; front = h.front; plain = h.plain; derives = an_atom h.derives; is = h.is; degree = h.degree; terms = h.terms; low = h.low; few = h.few }
+  as-factor s f d n h = record { tokens = h.tokens; tree = h.tree; front = h.front; plain = h.plain; derives = an_atom h.derives; is = h.is; degree = h.degree; terms = h.terms; low = h.low; few = h.few; solid = h.solid }
 
   pub as-term : (s : List ℕ) (f : Polynomial ℕ) (d n : ℕ) → Phrase factor s f d n → Phrase term s f d n
-  as-term s f d n h = record { tokens = h.tokens; tree = h.tree; front = h.front; plain = h.plain; derives = a_factor h.derives; is = h.is; degree = h.degree; terms = h.terms; low = h.low; few = h.few }
+  as-term s f d n h = record { tokens = h.tokens; tree = h.tree; front = h.front; plain = h.plain; derives = a_factor h.derives; is = h.is; degree = h.degree; terms = h.terms; low = h.low; few = h.few; solid = h.solid }
 
   pub as-expression : (s : List ℕ) (f : Polynomial ℕ) (d n : ℕ) → Phrase term s f d n → Phrase expression s f d n
-  as-expression s f d n h = record { tokens = h.tokens; tree = h.tree; front = h.front; plain = h.plain; derives = a_term h.derives; is = h.is; degree = h.degree; terms = h.terms; low = h.low; few = h.few }
+  as-expression s f d n h = record { tokens = h.tokens; tree = h.tree; front = h.front; plain = h.plain; derives = a_term h.derives; is = h.is; degree = h.degree; terms = h.terms; low = h.low; few = h.few; solid = h.solid }
 
   -- ---- numbers, names and powers
 
@@ -145,6 +160,7 @@ module _ (p : ℕ) (names : List (List ℕ)) where
     terms = refl;
     low = refl;
     few = refl;
+    solid = number-solid s n h;
   }
 
   pub word-phrase : (w : List ℕ) (k : ℕ) → is_word w ≡ true → list_any (bytes_eq w) names ≡ true → place_of names w ≡ k → Phrase atom w (variable (residue_ops p) k) 1 1
@@ -160,6 +176,7 @@ module _ (p : ℕ) (names : List (List ℕ)) where
     terms = refl;
     low = refl;
     few = refl;
+    solid = word-solid w form;
   }
 
   -- a name with an exponent
@@ -180,6 +197,7 @@ module _ (p : ℕ) (names : List (List ℕ)) where
         terms = one-power e;
         low = rw (unit, within) refl;
         few = rw (one-power e) refl;
+        solid = solid-between w (94 ∷ []) t refl (word-solid w form) (number-solid t e text);
       }
 
   -- ---- products and sums
@@ -197,6 +215,7 @@ module _ (p : ℕ) (names : List (List ℕ)) where
     terms = rw (a.terms, b.terms) refl;
     low = rw (a.low, b.low) (not-less 64 (formal_degree a.tree + formal_degree b.tree) (omega (arith, a.degree, b.degree)));
     few = rw (a.few, b.few, a.terms, b.terms) refl;
+    solid = solid-between s (42 ∷ []) t refl a.solid b.solid;
   }
 
   pub sum-phrase : (s t : List ℕ) (f g : Polynomial ℕ) (d m n : ℕ) → Phrase expression s f d m → Phrase term t g d n → d ≤ 64 → m + n ≤ 1000000 → Phrase expression (s ++ 32 ∷ 43 ∷ 32 ∷ t) (f ++ g) d (m + n)
@@ -212,4 +231,5 @@ module _ (p : ℕ) (names : List (List ℕ)) where
     terms = rw (a.terms, b.terms) refl;
     low = rw (a.low, b.low) (not-less 64 (max (formal_degree a.tree) (formal_degree b.tree)) (omega (arith, a.degree, b.degree)));
     few = rw (a.few, b.few) (not-less 1000000 (formal_terms a.tree + formal_terms b.tree) (omega (arith, a.terms, b.terms)));
+    solid = solid-between s (32 ∷ 43 ∷ 32 ∷ []) t refl a.solid b.solid;
   }

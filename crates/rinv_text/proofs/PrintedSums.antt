@@ -30,6 +30,12 @@ pub record IsPrintedTerm (v : ℕ) (t : Term ℕ) : Type 0 where
   pub low : total_degree t.0 ≤ 64
   pub small : t.1 < 2 ^ 64
 
+-- s is an expression with the value f
+pub record IsPrintedText (p : ℕ) (names : List (List ℕ)) (s : List ℕ) (f : Polynomial ℕ) : Type 0 where
+  pub degree : ℕ
+  pub terms : ℕ
+  pub phrase : Phrase p names expression s f degree terms
+
 module _ (p : ℕ) (names : List (List ℕ)) (words : list_all is_word names ≡ true) (distinct : IsDistinct bytes_eq names) where
   abbrev o : RingOps ℕ
   o = residue_ops p
@@ -55,35 +61,40 @@ module _ (p : ℕ) (names : List (List ℕ)) (words : list_all is_word names ≡
   nothing = record { first = 48; others = []; is = refl; all = refl; value = refl }
 
   -- terms as they stand
-  terms-denoted : (ts : Polynomial ℕ) → length ts ≤ 1000000 → All (IsPrintedTerm (length names)) ts → Denotes p names (terms_text names ts) ts
-  terms-denoted [] few all =
-      phrase-denotes p names (codes "0") [] 0 1
-      (phrase-same p names expression (codes "0") (constant o 0) [] 0 1 (same-back o (residue_laws p) (constant o 0) [] (term-zero o (residue_laws p) [] 0 ((residue_laws p).same_refl 0)))
-      (as-expression p names (codes "0") (constant o 0) 0 1 (as-term p names (codes "0") (constant o 0) 0 1 (as-factor p names (codes "0") (constant o 0) 0 1 (number-phrase p names (codes "0") 0 nothing (omega arith))))))
-  terms-denoted (t ∷ ts) few all =
-      let text : List ℕ = term_text names t in
-      let rest : List ℕ = flat_map (λ y. codes " + " ++ y) (map (term_text names) ts) in
-      phrase-denotes p names (text ++ rest) (t ∷ ts) 64 (1 + length ts)
-      (goes-on text (t ∷ []) ts 1 (omega (arith, few)) (All-tail (IsPrintedTerm (length names)) t ts all)
-      (as-expression p names text (t ∷ []) 64 1 (one-phrase t (All-head (IsPrintedTerm (length names)) t ts all))))
+  terms-printed : (ts : Polynomial ℕ) → length ts ≤ 1000000 → All (IsPrintedTerm (length names)) ts → IsPrintedText p names (terms_text names ts) ts
+  terms-printed [] few all = record {
+    degree = 0;
+    terms = 1;
+    phrase = phrase-same p names expression (codes "0") (constant o 0) [] 0 1 (same-back o (residue_laws p) (constant o 0) [] (term-zero o (residue_laws p) [] 0 ((residue_laws p).same_refl 0)))
+        (as-expression p names (codes "0") (constant o 0) 0 1 (as-term p names (codes "0") (constant o 0) 0 1 (as-factor p names (codes "0") (constant o 0) 0 1 (number-phrase p names (codes "0") 0 nothing (omega arith)))));
+  }
+  terms-printed (t ∷ ts) few all = let text : List ℕ = term_text names t in record {
+    degree = 64;
+    terms = 1 + length ts;
+    phrase = goes-on text (t ∷ []) ts 1 (omega (arith, few)) (All-tail (IsPrintedTerm (length names)) t ts all)
+        (as-expression p names text (t ∷ []) 64 1 (one-phrase t (All-head (IsPrintedTerm (length names)) t ts all)));
+  }
 
 -- the modulus is small
 listed-small : (p : ℕ) → IsTrue (is_listed p) → p ≤ 2 ^ 64
 listed-small p listed = grind (arith, nat_tests)
 
--- a polynomial within the limits is what its text denotes
-pub printed-denoted : (p : ℕ) (names : List (List ℕ)) (f : Polynomial ℕ) → IsTrue (is_listed p) → AreWords names → IsPrintable p (length names) f → Denotes p names (poly_text p names f) f
+-- the text of a polynomial within the limits
+pub printed-text : (p : ℕ) (names : List (List ℕ)) (f : Polynomial ℕ) → IsTrue (is_listed p) → AreWords names → IsPrintable p (length names) f → IsPrintedText p names (poly_text p names f) f
 unfolding poly_text
-printed-denoted p names f listed words h =
+printed-text p names f listed words h =
     let n = ordered-from_normal (residue_ops p) (λ c. nat_lt c p) (length names) f h.normal in
     let ts : Polynomial ℕ = descending_terms p f in
     let moved : IsPermutation f ts = descending_terms-permuted p (length names) f listed h.normal in
     let each : All (IsPrintedTerm (length names)) f = All-weaker (λ t. IsNormalTerm (residue_ops p) (λ c. nat_lt c p) (length names) t × (total_degree t.0 ≤ 64)) (IsPrintedTerm (length names))
     (λ t both. record { long = both.0.vars; low = both.1; small = omega (arith, ltb-true t.1 p both.0.coefficient, listed-small p listed) }) f (λ k d lt. (n.terms k d lt, h.low k d lt)) in
-    let denoted = terms-denoted p names words.words words.distinct ts (omega (arith, h.few, length_permutation f ts moved)) (All-permutation (IsPrintedTerm (length names)) f ts moved each) in
+    let text = terms-printed p names words.words words.distinct ts (omega (arith, h.few, length_permutation f ts moved)) (All-permutation (IsPrintedTerm (length names)) f ts moved each) in
     record {
-      tree = denoted.tree;
-      derived = denoted.derived;
-      accepted = denoted.accepted;
-      same = same-then (residue_ops p) (residue_laws p) f ts _ (same-permuted (residue_ops p) (residue_laws p) f ts moved) denoted.same;
+      degree = text.degree;
+      terms = text.terms;
+      phrase = phrase-same p names expression (terms_text names ts) ts f text.degree text.terms (same-permuted (residue_ops p) (residue_laws p) f ts moved) text.phrase;
     }
+
+-- it denotes the polynomial
+pub printed-denoted : (p : ℕ) (names : List (List ℕ)) (f : Polynomial ℕ) → IsTrue (is_listed p) → AreWords names → IsPrintable p (length names) f → Denotes p names (poly_text p names f) f
+printed-denoted p names f listed words h = let text = printed-text p names f listed words h in phrase-denotes p names (poly_text p names f) f text.degree text.terms text.phrase

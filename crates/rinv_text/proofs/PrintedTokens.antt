@@ -130,7 +130,7 @@ decimal-number n small = of (decimal n) (decimal_is_IsNumeral n small).0.0 (deci
     of (b ∷ bs) some d v = record { first = b; others = bs; is = refl; all = all-digits (b ∷ bs) d; value = folds 0 (b ∷ bs) d ∙ v }
 
 -- a byte of a name more
-name-more : (b : ℕ) (bs : List ℕ) → is_name_byte b ≡ true → name_length (b ∷ bs) ≡ suc (name_length bs)
+pub name-more : (b : ℕ) (bs : List ℕ) → is_name_byte b ≡ true → name_length (b ∷ bs) ≡ suc (name_length bs)
 name-more b bs e =
     let n : ℕ = prefix_len is_name_byte bs in
     let more : 1 + n ≡ suc n = omega arith in
