@@ -41,3 +41,9 @@ pub mod Piles
 pub mod Read
 pub mod Denoted
 pub mod Expressions
+pub mod PrintedTokens
+pub mod PrintedBytes
+pub mod PrintedPhrases
+pub mod PrintedTerms
+pub mod PrintedOrder
+pub mod PrintedSums
