@@ -5,7 +5,7 @@ pub mod NamesInTurn
 mod Keys
 mod Absent
 pub mod MadeNames
-mod WordsInTurn
+pub mod WordsInTurn
 pub mod Sound
 pub mod Parses
 pub mod Postfix
@@ -17,8 +17,6 @@ pub mod Tokenwise
 pub mod Prefixes
 pub mod Digits
 pub mod Places
-mod MadeNames
-pub mod WordsInTurn
 pub mod Joined
 mod TermsInTurn
 mod Descending
