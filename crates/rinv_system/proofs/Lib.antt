@@ -14,3 +14,4 @@ pub mod Begun
 pub mod LineSteps
 pub mod ShortFacts
 pub mod ReadFacts
+pub mod Formed

@@ -17,10 +17,10 @@ module _ (text rest line following : List ℕ) (d : Draft) (count : ℕ) (split 
 
   -- the next line is taken
   pub HasTaken-more : (next : Draft) → IsLineTaken d (content_of line) next → HasTaken text following next (count + 1)
-  HasTaken-more next taken = (
+  HasTaken-more next made = (
     has.0 ++ content_of line ∷ [],
     at_line ∙ sym (append_assoc has.0 (content_of line ∷ []) (contents_of following)),
-    AreTaken.one_more (content_of line) has.2 taken,
+    AreTaken.one_more (content_of line) has.2 made,
     ap (λ n. n + 1) has.3 ∙ sym (length-append has.0 (content_of line ∷ [])),
   )
 

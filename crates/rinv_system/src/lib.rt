@@ -16,3 +16,6 @@ pub use keyword::{Keyword, head};
 pub use lines::{content, first_bad_line, first_line};
 pub use read::read_system;
 pub use refused::{Code, Refused, SystemStop};
+
+#[cfg(test)]
+mod tests;

@@ -1,6 +1,7 @@
 //! From the bytes of a text to its system.
 
 ghost use Rattle.std.specs.Prelude.{◌≡◌, ◌<◌, ◌+◌, ◌-◌, ◌^◌, List, ℕ, None, length, IfOk, IfErr, IsTrue, IsFalse, MatchOption};
+ghost use Rattle.rinv_defs.specs.SystemForm.{IsSystem};
 ghost use Rattle.rinv_system.specs.Lines.{first_bad_line};
 ghost use Rattle.rinv_system.specs.Drafts.{blank, is_whole};
 ghost use Rattle.rinv_system.specs.Texts.{AreTaken, contents_of, told_by, IsSystemText, IsRefusedText};
@@ -85,6 +86,7 @@ fn read_lines(alloc: Global, text: &[u8]) -> Result<(Draft, u32), SystemStop>
 pub fn read_system(alloc: Global, bytes: &[u8]) -> Result<System, SystemStop>
     requires { length bytes.now < 2 ^ 32 - 1 }
     ensures ok { IfOk result (IsSystemText bytes.now) }
+    ensures form { IfOk result (λ told. IsSystem told.system) }
     ensures fault { IfErr result (OnRefusal (IsRefusedText bytes.now)) }
 {
     if let Some(line) = first_bad_line(bytes) {

@@ -1,0 +1,138 @@
+//! Worked texts of systems, and how changed ones are refused.
+
+use crate::{Code, Refused, SystemStop, read_system};
+use rinv_ring::FieldFault;
+use rinv_text::TextCode;
+use std::alloc::{AllocError, Global};
+use std::test::Fail;
+
+// Translations along x.
+const TRANSLATIONS: &str =
+    "field 101\ngroup a\nspace x, y\nunit 0\nproduct a+a'\ninverse -a\naction x+a, y\n";
+
+// The text above, with a part of it changed.
+fn changed(alloc: Global, old: &str, new: &str) -> Result<String, AllocError> {
+    match TRANSLATIONS.split_once(old) {
+        Some((before, after)) => format!(in alloc; "{before}{new}{after}"),
+        None => format!(in alloc; "no {old}"),
+    }
+}
+
+// How the text is refused, or how long its lists are.
+fn outcome(alloc: Global, text: &[u8]) -> Result<[usize; 5], SystemStop> {
+    if text.len() > 10_000 {
+        return Err(SystemStop::NoMemory);
+    }
+    let system = read_system(alloc, text)?;
+    Ok([
+        system.group.len() as usize,
+        system.space.len() as usize,
+        system.ideal.len(),
+        system.unit.len(),
+        system.action.len(),
+    ])
+}
+
+#[test]
+fn refuses_changed_texts(rt: HostRuntime) -> Result<(), Fail> {
+    let alloc = rt.alloc();
+    let field = Code::Field;
+    let text = Code::Text;
+    for (old, new, line, code) in [
+        ("group a", "field 101", 2, Code::Missing),
+        ("x+a, y\n", "x+a, y\nunit 0", 8, Code::Twice),
+        (
+            "x+a, y\n",
+            "x+a, y\nideal a+",
+            8,
+            text(TextCode::Expression),
+        ),
+        ("unit 0", "unit 0, 0", 4, Code::Count),
+        ("x+a, y", "x/a, y", 7, text(TextCode::Expression)),
+        ("x+a, y", "x+a, z", 7, text(TextCode::Name)),
+        (
+            "x+a, y\n",
+            "x+a, y\nbudget pairs 1000001",
+            8,
+            text(TextCode::Limit),
+        ),
+        ("group a", "group y1", 2, text(TextCode::Name)),
+        ("x+a, y\n", "x+a, y\n\nsection y-1", 9, Code::Word),
+        ("101", "4", 1, field(FieldFault::NotListed)),
+        ("101", "1", 1, field(FieldFault::TooSmall)),
+        ("101", "32004", 1, field(FieldFault::TooLarge)),
+        ("x, y", "x, x", 3, text(TextCode::Name)),
+        ("x+a, y", "x^65+a, y", 7, text(TextCode::FormalDegree)),
+        ("x+a, y\n", "x+a, y\nrewrite y", 8, Code::Word),
+        ("x+a, y\n", "x+a, y\nbudget 5", 8, Code::Word),
+        ("inverse -a", "", 8, Code::Missing),
+        ("unit 0", "unit 0\u{7f}", 4, Code::NotText),
+    ] {
+        let text = changed(alloc, old, new)?;
+        let refused = SystemStop::Refused(Refused { line, code });
+        assert_eq!(rt;
+            outcome(alloc, text.as_bytes()).err(),
+            Some(refused),
+            "at {new}"
+        );
+    }
+    Ok(())
+}
+
+#[test]
+fn refuses_empty_texts(rt: HostRuntime) {
+    let code = Code::Missing;
+    for (text, line) in [("", 1), ("\n", 2), ("# nothing", 2)] {
+        let refused = SystemStop::Refused(Refused { line, code });
+        assert_eq!(rt;
+            outcome(rt.alloc(), text.as_bytes()).err(),
+            Some(refused),
+            "at {text:?}"
+        );
+    }
+}
+
+#[test]
+fn reads_worked_texts(rt: HostRuntime) {
+    for (text, sizes) in [
+        (TRANSLATIONS, [1, 2, 0, 1, 2]),
+        (
+            "field 101\ngroup a, b\nspace x, y\nideal a^2+b^2-1\nunit 1, 0\nproduct a*a'-b*b', a*b'+b*a'\ninverse a, -b\naction a*x-b*y, b*x+a*y",
+            [2, 2, 1, 2, 2],
+        ),
+        (
+            "field 101\r\ngroup a, b\r\n\tspace x ,y # two\r\n\r\nideal a*b-1\r\nunit 1, 1\r\nproduct a*a', b*b'\r\ninverse b, a\r\naction a*x, a*y\r",
+            [2, 2, 1, 2, 2],
+        ),
+        (
+            "field 7\ngroup a\nspace x, y\nideal a^2-1\nunit 1\nproduct a*a'\ninverse a\naction 4*(1+a)*x+4*(1-a)*y, 4*(1-a)*x+4*(1+a)*y",
+            [1, 2, 1, 1, 2],
+        ),
+        (
+            "field 5\ngroup a\nspace x\nideal a^5-a\nunit 0\nproduct a+a'\ninverse -a\naction x+a\nbudget pairs 0\nbudget\tsteps 7",
+            [1, 1, 1, 1, 1],
+        ),
+        (
+            "field 32003\ngroup a, b, c, d\nspace u, v, w\nideal a*d-b*c-1\nunit 1, 0, 0, 1\nproduct a*a'+b*c', a*b'+b*d', c*a'+d*c', c*b'+d*d'\ninverse d, -b, -c, a\naction a^2*u+a*b*v+b^2*w, 2*a*c*u+(a*d+b*c)*v+2*b*d*w, c^2*u+c*d*v+d^2*w\nbudget pairs 100000\nbudget steps 2000000",
+            [4, 3, 1, 4, 3],
+        ),
+        (
+            "field 101\ngroup a, b, c, d\nspace u, v, s, t\nideal a^2+b^2-1\nunit 1, 0, 0, 0\nproduct a*a'-b*b', a*b'+b*a', a*c'-b*d'+c, b*c'+a*d'+d\ninverse a, -b, -a*c-b*d, b*c-a*d\naction a*u-b*v+c, b*u+a*v+d, a*s-b*t+c, b*s+a*t+d",
+            [4, 4, 1, 4, 4],
+        ),
+        (
+            "field 101\ngroup a, b, c\nspace x\nideal a*b-1\nunit 1, 1, 0\nproduct a*a', b*b', a*c'+c\ninverse b, a, -b*c\naction a*x+c",
+            [3, 1, 1, 3, 1],
+        ),
+        (
+            "field 2\ngroup a\nspace x\nideal a^2-1\nunit 1\nproduct a*a'\ninverse a\naction a*x",
+            [1, 1, 1, 1, 1],
+        ),
+    ] {
+        assert_eq!(rt;
+            outcome(rt.alloc(), text.as_bytes()),
+            Ok(sizes),
+            "at {text}"
+        );
+    }
+}
