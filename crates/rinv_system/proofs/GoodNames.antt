@@ -19,7 +19,7 @@ or_swapped true false = refl
 or_swapped false true = refl
 or_swapped false false = refl
 
-new-swapped : (xs earlier : List (List ℕ)) (w : List ℕ) → is_new_name (xs ++ earlier) w ≡ is_new_name (earlier ++ xs) w
+pub new-swapped : (xs earlier : List (List ℕ)) (w : List ℕ) → is_new_name (xs ++ earlier) w ≡ is_new_name (earlier ++ xs) w
 new-swapped xs earlier w = ap (λ t. is_plain_name w && not (is_symbol w) && not t) (list_any-append (bytes_eq w) xs earlier ∙ or_swapped (list_any (bytes_eq w) xs) (list_any (bytes_eq w) earlier) ∙ sym (list_any-append (bytes_eq w) earlier xs))
 
 -- new names are names

@@ -15,3 +15,9 @@ pub mod LineSteps
 pub mod ShortFacts
 pub mod ReadFacts
 pub mod Formed
+pub mod FirstFaults
+pub mod Verdicts
+pub mod OneDraft
+pub mod OneNext
+pub mod OneText
+pub mod OneOutcome

@@ -5,3 +5,4 @@ pub mod Drafts
 pub mod Forms
 pub mod Texts
 pub mod Stops
+pub mod OneSystem

@@ -4,6 +4,7 @@
 mod draft;
 mod entries;
 mod keyword;
+pub mod laws;
 mod line;
 mod lines;
 mod listing;
