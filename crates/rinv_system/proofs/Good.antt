@@ -70,8 +70,17 @@ module _ (p : ℕ) (group space : List (List ℕ)) (d : Draft) (form : HasForm p
       (record { listed = form.listed; group_form = form.group_form; space_form = form.space_form; ideal = and_true (nat_le (length fs) 64) (are_normal p (length group) fs) (ap (λ n. nat_le n 64) (AreEntries-length are) ∙ at_most-none 64 _ few) (AreEntries-normal are); unit = form.unit; product = form.product; inverse = form.inverse; action = form.action })
   polynomials-good fs TellsPolynomials.unit_line right are =
       IsGood.begun p group space (record d { unit = Some (map (λ f. coefficient (residue_ops p) f []) fs) })
-      (record { listed = form.listed; group_form = form.group_form; space_form = form.space_form; ideal = form.ideal; unit = and_true _ _ (ap (λ n. n == length group) (length-map fs (λ f. coefficient (residue_ops p) f []) ∙ AreEntries-length are) ∙ exactly-none (length group) _ right)
-          (constants-small p fs (listed-some p form.listed) (AreEntries-normal are)); product = form.product; inverse = form.inverse; action = form.action })
+      (record {
+        listed = form.listed;
+        group_form = form.group_form;
+        space_form = form.space_form;
+        ideal = form.ideal;
+        unit = and_true _ _ (ap (λ n. n == length group) (length-map fs (λ f. coefficient (residue_ops p) f []) ∙ AreEntries-length are) ∙ exactly-none (length group) _ right)
+            (constants-small p fs (listed-some p form.listed) (AreEntries-normal are));
+        product = form.product;
+        inverse = form.inverse;
+        action = form.action;
+      })
   polynomials-good fs TellsPolynomials.product_line right are =
       IsGood.begun p group space (record d { product = Some fs }) (record { listed = form.listed; group_form = form.group_form; space_form = form.space_form; ideal = form.ideal; unit = form.unit; product = so_many (length group) (2 * length group) (length-two_copies group) right are; inverse = form.inverse; action = form.action })
   polynomials-good fs TellsPolynomials.inverse_line right are =

@@ -10,3 +10,8 @@ pub mod Constants
 pub mod GoodNames
 pub mod GoodLists
 pub mod Good
+mod WrittenLists
+mod SystemFacts
+mod SystemWritten
+mod WrittenNames
+mod WrittenEntries

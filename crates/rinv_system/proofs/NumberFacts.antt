@@ -69,8 +69,10 @@ modulus-refused d rest n p NotListed numeral is few between other small large = 
   where
     least : 2 ≤ p
     least = elim (cases_lt p 2) [ inr h ↦ h | inl h ↦ let e : IsErrOf {T = ℕ} (Err NotListed) TooSmall = small.1 h in cc ]
+
     most : p ≤ 32003
     most = elim (cases_lt 32003 p) [ inr h ↦ h | inl h ↦ let e : IsErrOf {T = ℕ} (Err NotListed) TooLarge = large.1 h in cc ]
+
     is_other : IsCapped n p → IsFieldFault (number_of rest) (InField NotListed)
     is_other (inr e) = absurd (omega (arith, e, most))
     is_other (inl e) = subst (λ m. IsFieldFault m (InField NotListed)) (e ∙ is) (IsFieldFault.not_listed least most (unlisted (is_listed p) other))

@@ -5,3 +5,5 @@ pub mod Drafts
 pub mod Forms
 pub mod Texts
 pub mod Stops
+pub mod Written
+pub mod Writing

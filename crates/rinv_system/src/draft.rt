@@ -17,6 +17,7 @@ use std::marker::Model;
 
 // The greatest numbers of variables of a list, and of polynomials of an ideal.
 const MAX_NAMES: usize = 8;
+
 const MAX_IDEAL: usize = 64;
 
 /// Each part of a system, where its line has come.

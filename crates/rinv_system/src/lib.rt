@@ -10,7 +10,9 @@ mod listing;
 mod naming;
 mod number;
 mod refused;
+mod write;
 
 pub use keyword::{Keyword, head};
 pub use lines::{content, first_bad_line, first_line};
 pub use refused::{Code, Refused, SystemStop};
+pub use write::write_system;

@@ -16,6 +16,7 @@ use rinv_text::{TextCode, is_digit};
 
 // The greatest number of pairs, and of steps.
 const MAX_PAIRS: u64 = 1_000_000;
+
 const MAX_STEPS: u64 = 1_000_000_000;
 
 fn are_digits(bytes: &[u8]) -> bool

@@ -33,7 +33,7 @@ returns-in_err-names-clause-fault c = let p = err_from_is_err_and c.from_residua
     _ c.in_err-names.ensures.fault)
 
 pub returns-clause-ok : goal.returns-clause-ok
-returns-clause-ok c = λ rest e. 
+returns-clause-ok c = λ rest e.
     let ns : c.in_ok-names.names ≡ words_of rest = c.in_ok-names.ensures.names ∙ e in
     subst (λ ws. IsRestTaken c.args.draft.now rest c.args.keyword (with_names c.args.draft.now c.args.keyword ws)) (sym ns)
     (IsRestTaken.some_names c.requires (ap (list_all is_name_word) (sym e) ∙ list_all-map is_name_word (λ w. w.now) c.args.words.now ∙ sym c.are_name_words.ensures ∙ c.if-not-are_name_words.false)
