@@ -15,3 +15,4 @@ mod SystemFacts
 mod SystemWritten
 mod WrittenNames
 mod WrittenEntries
+mod WrittenLines
