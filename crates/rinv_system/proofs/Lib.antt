@@ -16,3 +16,7 @@ mod SystemWritten
 mod WrittenNames
 mod WrittenEntries
 mod WrittenLines
+mod WrittenRests
+mod WrittenHeads
+mod WrittenTaken
+mod WrittenSystems

@@ -12,6 +12,7 @@ use Rattle.rinv_text.specs.Tokens.{is_name_byte, name_length}
 use Rattle.rinv_text.specs.Names.{is_new_name, copies, suffixed, meet, has_prime}
 use Rattle.rinv_text.specs.Printable.{is_word, AreWords}
 use Rattle.rinv_text.proofs.PrintedTokens.{name-more}
+use Rattle.rinv_system.specs.Entries.{is_name_word}
 use Rattle.rinv_system.specs.Forms.{AreNewNames}
 use Rattle.rinv_system.proofs.GoodNames.{are_names-apart, are_names-plain}
 
@@ -209,3 +210,10 @@ both-words xs ys h k = record {
   words = words-append xs ys (names-words [] xs h) (names-words xs ys k);
   distinct = distinct-append xs ys (names-distinct [] xs h) (names-distinct xs ys k) (meet-apart xs ys (are_names-apart xs ys k));
 }
+
+pub name-words : (earlier ws : List (List ℕ)) → are_names earlier ws ≡ true → list_all is_name_word ws ≡ true
+name-words earlier [] h = refl
+name-words earlier (w ∷ ws) h = let p = parts earlier w ws h in rw (name-word w p.plain) (name-words (w ∷ earlier) ws p.others)
+  where
+    name-word : (w : List ℕ) → is_plain_name w ≡ true → is_name_word w ≡ true
+    name-word w h = let p = plain-parts w h in subst (λ v. is_name_word v ≡ true) (sym p.is) (rw p.letter p.bytes)
