@@ -110,9 +110,10 @@ module _ (p : ℕ) (names : List (List ℕ)) where
   pub polynomials-texts : (fs : List Poly) → IsTrue (is_listed p) → AreWords names → AreNormal p (length names) fs → All IsWithinLimits fs → AreTexts p names (map (poly_text p names) fs) fs
   polynomials-texts [] listed words normal limits = tt
   polynomials-texts (f ∷ fs) listed words normal limits =
-      let own = All-head (IsNormal (residue_ops p) (λ c. nat_lt c p) (length names)) f fs normal in
-      (record { printed = printed-text p names f listed words own (All-head IsWithinLimits f fs limits); normal = own },
-       polynomials-texts fs listed words (All-tail (IsNormal (residue_ops p) (λ c. nat_lt c p) (length names)) f fs normal) (All-tail IsWithinLimits f fs limits))
+      let own = All-head (IsNormal (residue_ops p) (λ c. nat_lt c p) (length names)) f fs normal in (
+        record { printed = printed-text p names f listed words own (All-head IsWithinLimits f fs limits); normal = own },
+        polynomials-texts fs listed words (All-tail (IsNormal (residue_ops p) (λ c. nat_lt c p) (length names)) f fs normal) (All-tail IsWithinLimits f fs limits),
+      )
 
 -- ---- numbers as polynomials without variables
 
@@ -137,8 +138,12 @@ module _ (p : ℕ) (listed : IsTrue (is_listed p)) where
         | inl none ↦
             let is : c ≡ 0 = eqb-true c 0 none in
             rw none (record {
-              printed = record { degree = 0; terms = 1; phrase = phrase-same p [] expression (decimal c) (constant (residue_ops p) c) [] 0 1
-                  (same-back (residue_ops p) (residue_laws p) (constant (residue_ops p) c) [] (term-zero (residue_ops p) (residue_laws p) [] c (subst (λ x. IsSame (residue_ops p) x 0) (sym is) ((residue_laws p).same_refl 0)))) phrase };
+              printed = record {
+                degree = 0;
+                terms = 1;
+                phrase = phrase-same p [] expression (decimal c) (constant (residue_ops p) c) [] 0 1
+                    (same-back (residue_ops p) (residue_laws p) (constant (residue_ops p) c) [] (term-zero (residue_ops p) (residue_laws p) [] c (subst (λ x. IsSame (residue_ops p) x 0) (sym is) ((residue_laws p).same_refl 0)))) phrase;
+              };
               normal = nil-normal (residue_ops p) (residue_laws p) (λ x. nat_lt x p) 0;
             })
         | inr some ↦ rw some (record { printed = record { degree = 0; terms = 1; phrase = phrase }; normal = single-normal p c listed below low some })

@@ -159,3 +159,91 @@ module _ (t : Told) (w : IsWritable t) where
           taken d (draft (Some t.system.ideal) None None None None None None) (line_text (codes "ideal") (polynomials_text t.system.p t.system.group t.system.ideal)) Ideal (polynomials_text t.system.p t.system.group t.system.ideal) are.0
           (head-ideal (polynomials_text t.system.p t.system.group t.system.ideal) (entries-line t.system.p t.system.group (map (poly_text t.system.p t.system.group) t.system.ideal) t.system.ideal some ideal-texts)) refl
           (polynomials-taken d Ideal (map (poly_text t.system.p t.system.group) t.system.ideal) t.system.ideal TellsPolynomials.ideal_line some (within 64 (length t.system.ideal) parts.ideal_few) ideal-texts)
+
+  maps-taken : (i : Option (List Poly)) → AreTaken (draft i None None None None None None) (map_lines t.system) (draft i (Some t.system.unit) (Some t.system.product) (Some t.system.inverse) (Some t.system.action) None None)
+  maps-taken i =
+      let p : ℕ = t.system.p in
+      let u : Option (List ℕ) = Some t.system.unit in
+      let m : Option (List Poly) = Some t.system.product in
+      let v : Option (List Poly) = Some t.system.inverse in
+      let factors : List (List ℕ) = copies 2 t.system.group in
+      let both : List (List ℕ) = t.system.group ++ t.system.space in
+      let d0 : Draft = draft i None None None None None None in
+      let d1 : Draft = draft i u None None None None None in
+      let d2 : Draft = draft i u m None None None None in
+      let d3 : Draft = draft i u m v None None None in
+      chained (taken d0 d1 (line_text (codes "unit") (numbers_text t.system.unit)) AtUnit (numbers_text t.system.unit) maps-are.0 (head-unit (numbers_text t.system.unit) unit-rest) refl
+      (subst (λ cs. IsRestTaken d0 (numbers_text t.system.unit) AtUnit (draft i (Some cs) None None None None None)) (constants-back p parts.listed t.system.unit)
+      (polynomials-taken d0 AtUnit (map decimal t.system.unit) (map as_polynomial t.system.unit) TellsPolynomials.unit_line unit-some (as-many (length t.system.group) (length (map as_polynomial t.system.unit)) (length-map t.system.unit as_polynomial ∙ parts.unit_count)) unit-texts)))
+      (chained (taken d1 d2 (line_text (codes "product") (polynomials_text p factors t.system.product)) Product (polynomials_text p factors t.system.product) maps-are.1.0 (head-product (polynomials_text p factors t.system.product) product-rest) refl
+      (polynomials-taken d1 Product (map (poly_text p factors) t.system.product) t.system.product TellsPolynomials.product_line (omega (arith, parts.product_count, l-some)) (as-many (length t.system.group) (length t.system.product) parts.product_count) product-texts))
+      (chained (taken d2 d3 (line_text (codes "inverse") (polynomials_text p t.system.group t.system.inverse)) Inverse (polynomials_text p t.system.group t.system.inverse) maps-are.1.1.0 (head-inverse (polynomials_text p t.system.group t.system.inverse) inverse-rest) refl
+      (polynomials-taken d2 Inverse (map (poly_text p t.system.group) t.system.inverse) t.system.inverse TellsPolynomials.inverse_line (omega (arith, parts.inverse_count, l-some)) (as-many (length t.system.group) (length t.system.inverse) parts.inverse_count) inverse-texts))
+      (taken d3 (draft i u m v (Some t.system.action) None None) (line_text (codes "action") (polynomials_text p both t.system.action)) Action (polynomials_text p both t.system.action) maps-are.1.1.1.0 (head-action (polynomials_text p both t.system.action) action-rest) refl
+      (polynomials-taken d3 Action (map (poly_text p both) t.system.action) t.system.action TellsPolynomials.action_line (omega (arith, parts.action_count, n-some)) (as-many (length t.system.space) (length t.system.action) parts.action_count) action-texts))))
+
+  at-most : (bound n : ℕ) → n ≤ bound → nat_le n bound ≡ true
+  at-most bound n le = grind (arith, nat_tests)
+
+  pairs-taken : (i : Option (List Poly)) (u : Option (List ℕ)) (m v a : Option (List Poly)) → AreTaken (draft i u m v a None None) (budget_lines (codes "budget pairs") 10000 t.pairs) (draft i u m v a (told_budget 10000 t.pairs) None)
+  unfolding told_budget
+  pairs-taken i u m v a = by (t.pairs == 10000) pairs-are
+    where
+      by : (b : Bool) → AreLines (if b then [] else line_text (codes "budget pairs") (decimal t.pairs) ∷ [])
+          → AreTaken (draft i u m v a None None) (if b then [] else line_text (codes "budget pairs") (decimal t.pairs) ∷ []) (draft i u m v a (if b then None else Some t.pairs) None)
+      by true are = AreTaken.none
+      by false are = taken (draft i u m v a None None) (draft i u m v a (Some t.pairs) None) (line_text (codes "budget pairs") (decimal t.pairs)) Pairs (decimal t.pairs) are.0 (head-pairs (decimal t.pairs) (number-line t.pairs (omega (arith, w.pairs)))) refl
+          (number-taken (draft i u m v a None None) Pairs t.pairs TellsNumber.pairs_line (omega (arith, w.pairs)) (at-most 1000000 t.pairs w.pairs))
+
+  steps-taken : (i : Option (List Poly)) (u : Option (List ℕ)) (m v a : Option (List Poly)) (x : Option ℕ) → AreTaken (draft i u m v a x None) (budget_lines (codes "budget steps") 10000000 t.steps) (draft i u m v a x (told_budget 10000000 t.steps))
+  unfolding told_budget
+  steps-taken i u m v a x = by (t.steps == 10000000) steps-are
+    where
+      by : (b : Bool) → AreLines (if b then [] else line_text (codes "budget steps") (decimal t.steps) ∷ [])
+          → AreTaken (draft i u m v a x None) (if b then [] else line_text (codes "budget steps") (decimal t.steps) ∷ []) (draft i u m v a x (if b then None else Some t.steps))
+      by true are = AreTaken.none
+      by false are = taken (draft i u m v a x None) (draft i u m v a x (Some t.steps)) (line_text (codes "budget steps") (decimal t.steps)) Steps (decimal t.steps) are.0 (head-steps (decimal t.steps) (number-line t.steps (omega (arith, w.steps)))) refl
+          (number-taken (draft i u m v a x None) Steps t.steps TellsNumber.steps_line (omega (arith, w.steps)) (at-most 1000000000 t.steps w.steps))
+
+  -- ---- the whole
+
+  abbrev last : Draft
+  last = draft (told_ideal t.system.ideal) (Some t.system.unit) (Some t.system.product) (Some t.system.inverse) (Some t.system.action) (told_budget 10000 t.pairs) (told_budget 10000000 t.steps)
+
+  all-taken : AreTaken blank (written_lines t) last
+  all-taken =
+      let i : Option (List Poly) = told_ideal t.system.ideal in
+      let u : Option (List ℕ) = Some t.system.unit in
+      let m : Option (List Poly) = Some t.system.product in
+      let v : Option (List Poly) = Some t.system.inverse in
+      let a : Option (List Poly) = Some t.system.action in
+      chained (chained (chained (chained first-taken ideal-taken) (maps-taken i)) (pairs-taken i u m v a)) (steps-taken i u m v a (told_budget 10000 t.pairs))
+
+  all-are : AreLines (written_lines t)
+  all-are =
+      lines-append (first_lines t.system ++ ideal_lines t.system ++ map_lines t.system ++ budget_lines (codes "budget pairs") 10000 t.pairs) (budget_lines (codes "budget steps") 10000000 t.steps)
+      (lines-append (first_lines t.system ++ ideal_lines t.system ++ map_lines t.system) (budget_lines (codes "budget pairs") 10000 t.pairs)
+      (lines-append (first_lines t.system ++ ideal_lines t.system) (map_lines t.system) (lines-append (first_lines t.system) (ideal_lines t.system) first-are ideal-are) maps-are) pairs-are) steps-are
+
+  -- the parts that a draft may leave out
+  rebuilt : List Poly → List Poly → ℕ → ℕ → Told
+  rebuilt i sec x y = record { system = record t.system { ideal = i; section = sec }; pairs = x; steps = y }
+
+  is-told : t ≡ told_by last
+  unfolding rebuilt
+  is-told =
+      ap (λ (i : List Poly). rebuilt i t.system.section t.pairs t.steps) (sym (ideal-back t.system.ideal))
+      ∙ ap (λ (sec : List Poly). rebuilt (unwrap_or (told_ideal t.system.ideal) []) sec t.pairs t.steps) w.no_section
+      ∙ ap (λ (x : ℕ). rebuilt (unwrap_or (told_ideal t.system.ideal) []) [] x t.steps) (sym (budget-back 10000 t.pairs))
+      ∙ ap (λ (y : ℕ). rebuilt (unwrap_or (told_ideal t.system.ideal) []) [] (unwrap_or (told_budget 10000 t.pairs) 10000) y) (sym (budget-back 10000000 t.steps))
+
+  -- the text tells the system
+  pub written-read : IsSystemText (system_text t) t
+  unfolding system_text
+  written-read = record {
+    good_bytes = text-good (written_lines t) all-are;
+    draft = last;
+    taken = subst (λ ls. AreTaken blank ls last) (sym (text-contents (written_lines t) all-are)) all-taken;
+    whole = refl;
+    is = is-told;
+  }

@@ -5,6 +5,7 @@ mod draft;
 mod entries;
 mod entry;
 mod keyword;
+pub mod laws;
 mod lines;
 mod listing;
 mod naming;

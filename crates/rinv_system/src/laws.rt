@@ -1,0 +1,10 @@
+//! What holds of each text of a system.
+
+ghost use Rattle.rinv_text.specs.Told.{Told};
+ghost use Rattle.rinv_system.specs.Texts.{IsSystemText};
+ghost use Rattle.rinv_system.specs.Written.{system_text, IsWritable};
+
+/// The text that is written of a system without a section tells this system, where its polynomials and budgets are within the limits of a text.
+pub fn written_systems_are_read()
+    ensures { (told : Told) → IsWritable told → IsSystemText (system_text told) told }
+{}
