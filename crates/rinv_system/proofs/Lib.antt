@@ -21,3 +21,13 @@ pub mod OneDraft
 pub mod OneNext
 pub mod OneText
 pub mod OneOutcome
+mod WrittenLists
+mod SystemFacts
+mod SystemWritten
+mod WrittenNames
+mod WrittenEntries
+mod WrittenLines
+mod WrittenRests
+mod WrittenHeads
+mod WrittenTaken
+mod WrittenSystems

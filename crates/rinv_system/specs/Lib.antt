@@ -6,3 +6,5 @@ pub mod Forms
 pub mod Texts
 pub mod Stops
 pub mod OneSystem
+pub mod Written
+pub mod Writing

@@ -1,9 +1,17 @@
-//! What holds of each text.
+//! What holds of each text of a system.
 
 ghost use Rattle.std.specs.Prelude.{ℕ, List};
+ghost use Rattle.rinv_text.specs.Told.{Told};
 ghost use Rattle.rinv_system.specs.OneSystem.{HasOneSystem};
+ghost use Rattle.rinv_system.specs.Texts.{IsSystemText};
+ghost use Rattle.rinv_system.specs.Written.{system_text, IsWritable};
 
 /// A text denotes one system at most, and has one refusal at most, and not both.
 pub fn system_texts_have_one_reading()
     ensures { (text : List ℕ) → HasOneSystem text }
+{}
+
+/// The text that is written of a system without a section tells this system, where its polynomials and budgets are within the limits of a text.
+pub fn written_systems_are_read()
+    ensures { (told : Told) → IsWritable told → IsSystemText (system_text told) told }
 {}

@@ -12,11 +12,13 @@ mod naming;
 mod number;
 mod read;
 mod refused;
+mod write;
 
 pub use keyword::{Keyword, head};
 pub use lines::{content, first_bad_line, first_line};
 pub use read::read_system;
 pub use refused::{Code, Refused, SystemStop};
+pub use write::write_system;
 
 #[cfg(test)]
 mod tests;

@@ -11,12 +11,13 @@ use Rattle.rinv_algebra.specs.Ring.{RingOps}
 use Rattle.rinv_algebra.specs.Residue.{is_listed, residue_ops}
 use Rattle.rinv_algebra.specs.Monomial.{total_degree}
 use Rattle.rinv_algebra.specs.Polynomial.{Polynomial, Term, constant}
+use Rattle.rinv_algebra.specs.Normal.{IsNormal}
 use Rattle.rinv_algebra.proofs.ResidueLaws.{residue_laws}
 use Rattle.rinv_poly.proofs.Gather.{same-then, same-back, term-zero}
 use Rattle.rinv_poly.proofs.Permuted.{same-permuted}
 use Rattle.rinv_poly.proofs.Forms.{IsNormalTerm, ordered-from_normal}
 use Rattle.rinv_defs.specs.Text.{term_text, terms_text, poly_text, descending_terms}
-use Rattle.rinv_text.specs.Printable.{is_word, AreWords, IsPrintable}
+use Rattle.rinv_text.specs.Printable.{is_word, AreWords, IsWithinLimits}
 use Rattle.rinv_text.specs.Grammar.{term, expression}
 use Rattle.rinv_text.specs.Stops.{Denotes}
 use Rattle.rinv_text.proofs.PrintedTokens.{IsNumberText}
@@ -80,12 +81,12 @@ listed-small : (p : ℕ) → IsTrue (is_listed p) → p ≤ 2 ^ 64
 listed-small p listed = grind (arith, nat_tests)
 
 -- the text of a polynomial within the limits
-pub printed-text : (p : ℕ) (names : List (List ℕ)) (f : Polynomial ℕ) → IsTrue (is_listed p) → AreWords names → IsPrintable p (length names) f → IsPrintedText p names (poly_text p names f) f
+pub printed-text : (p : ℕ) (names : List (List ℕ)) (f : Polynomial ℕ) → IsTrue (is_listed p) → AreWords names → IsNormal (residue_ops p) (λ c. nat_lt c p) (length names) f → IsWithinLimits f → IsPrintedText p names (poly_text p names f) f
 unfolding poly_text
-printed-text p names f listed words h =
-    let n = ordered-from_normal (residue_ops p) (λ c. nat_lt c p) (length names) f h.normal in
+printed-text p names f listed words normal h =
+    let n = ordered-from_normal (residue_ops p) (λ c. nat_lt c p) (length names) f normal in
     let ts : Polynomial ℕ = descending_terms p f in
-    let moved : IsPermutation f ts = descending_terms-permuted p (length names) f listed h.normal in
+    let moved : IsPermutation f ts = descending_terms-permuted p (length names) f listed normal in
     let each : All (IsPrintedTerm (length names)) f = All-weaker (λ t. IsNormalTerm (residue_ops p) (λ c. nat_lt c p) (length names) t × (total_degree t.0 ≤ 64)) (IsPrintedTerm (length names))
     (λ t both. record { long = both.0.vars; low = both.1; small = omega (arith, ltb-true t.1 p both.0.coefficient, listed-small p listed) }) f (λ k d lt. (n.terms k d lt, h.low k d lt)) in
     let text = terms-printed p names words.words words.distinct ts (omega (arith, h.few, length_permutation f ts moved)) (All-permutation (IsPrintedTerm (length names)) f ts moved each) in
@@ -96,5 +97,5 @@ printed-text p names f listed words h =
     }
 
 -- it denotes the polynomial
-pub printed-denoted : (p : ℕ) (names : List (List ℕ)) (f : Polynomial ℕ) → IsTrue (is_listed p) → AreWords names → IsPrintable p (length names) f → Denotes p names (poly_text p names f) f
-printed-denoted p names f listed words h = let text = printed-text p names f listed words h in phrase-denotes p names (poly_text p names f) f text.degree text.terms text.phrase
+pub printed-denoted : (p : ℕ) (names : List (List ℕ)) (f : Polynomial ℕ) → IsTrue (is_listed p) → AreWords names → IsNormal (residue_ops p) (λ c. nat_lt c p) (length names) f → IsWithinLimits f → Denotes p names (poly_text p names f) f
+printed-denoted p names f listed words normal h = let text = printed-text p names f listed words normal h in phrase-denotes p names (poly_text p names f) f text.degree text.terms text.phrase
