@@ -1,6 +1,6 @@
 //! Worked texts of systems, and how changed ones are refused.
 
-use crate::{Code, Refused, SystemStop, read_system};
+use crate::{Code, Refused, SystemStop, read_system, write_system};
 use rinv_ring::FieldFault;
 use rinv_text::TextCode;
 use std::alloc::{AllocError, Global};
@@ -134,5 +134,37 @@ fn reads_worked_texts(rt: HostRuntime) {
             Ok(sizes),
             "at {text}"
         );
+    }
+}
+
+// The text as it is written once it has been read.
+fn rewritten(alloc: Global, text: &[u8]) -> Result<Vec<u8>, SystemStop> {
+    if text.len() > 10_000 {
+        return Err(SystemStop::NoMemory);
+    }
+    let system = read_system(alloc, text)?;
+    let written = write_system(alloc, &system)?;
+    Ok(written)
+}
+
+#[test]
+fn writes_what_it_has_read(rt: HostRuntime) {
+    for (text, written) in [
+        (
+            TRANSLATIONS,
+            "field 101\ngroup a\nspace x, y\nunit 0\nproduct a + a'\ninverse 100*a\naction a + x, y\n",
+        ),
+        (
+            "field 5\ngroup a\nspace x\nbudget\tsteps 7\nideal a^5-a\nunit 5\nproduct a+a'\ninverse -a\naction x+a\nbudget pairs 0",
+            "field 5\ngroup a\nspace x\nideal a^5 + 4*a\nunit 0\nproduct a + a'\ninverse 4*a\naction a + x\nbudget pairs 0\nbudget steps 7\n",
+        ),
+    ] {
+        for given in [text, written] {
+            let Ok(bytes) = rewritten(rt.alloc(), given.as_bytes()) else {
+                assert!(rt; false, "refused: {given}");
+                return;
+            };
+            assert_eq!(rt; bytes.as_slice(), written.as_bytes(), "at {given}");
+        }
     }
 }
