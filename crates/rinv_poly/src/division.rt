@@ -78,7 +78,7 @@ fn quotient_terms<R: Field>(
     let mut quotient = Vec::new(alloc);
     'terms: while let Some((mono, d)) = left.pop() {
         if !lead.divides(&mono) {
-            return Ok(None); // a rest that is no multiple
+            return Ok(None);
         }
         let factor = mono.quotient(alloc, lead)?;
         let q = coeffs.mul(alloc, &d, &inverse)?;

@@ -4,9 +4,9 @@ ghost use Rattle.std.specs.Prelude.{◌≡◌, IsTrue, IfOk, nat_lt};
 ghost use Rattle.rinv_algebra.specs.Normal.{IsNormal};
 ghost use Rattle.rinv_algebra.specs.Residue.{residue_ops};
 
-use super::{KPoly, Poly, PolyRing};
-use rinv_mono::{Blocks, Grevlex, Mono, MonoOrder};
-use rinv_ring::{Field, Gf, Ring, RingFault};
+use super::{KPoly, PolyRing};
+use rinv_mono::Mono;
+use rinv_ring::{Gf, Ring, RingFault};
 use std::alloc::Global;
 use std::test::Fail;
 
@@ -160,62 +160,5 @@ fn laws_hold_over_two_rings(rt: HostRuntime) -> Result<(), Fail> {
     let p = outer.from_terms(alloc, terms)?;
     let square = outer.mul(alloc, &p, &p)?;
     assert!(rt; laws_hold(&outer, alloc, &square, &p)?, "over polynomials");
-    Ok(())
-}
-
-// The quotient by the divisor, by a call that knows of a field alone; None for the divisor zero.
-fn exact<F: Field>(
-    ring: &PolyRing<F>,
-    alloc: Global,
-    f: &Poly<F>,
-    d: &Poly<F>,
-) -> Result<Option<Poly<F>>, RingFault>
-    requires left { IsNormal (F.ops ring.now.coeffs) (F.is_element ring.now.coeffs) ring.now.vars f.now }
-    requires right { IsNormal (F.ops ring.now.coeffs) (F.is_element ring.now.coeffs) ring.now.vars d.now }
-{
-    if ring.is_zero(d) {
-        return Ok(None);
-    }
-    ring.divide_exact(alloc, f, d)
-}
-
-#[test]
-fn divides_exactly(rt: HostRuntime) -> Result<(), Fail> {
-    let alloc = rt.alloc();
-    let ring = PolyRing::new(Gf::new(7)?, 2);
-    let squares = polynomial(alloc, &ring, &[(1, 2, 0), (6, 0, 2)])?;
-    for (divisor, expected) in [
-        ([(1, 1, 0), (6, 0, 1)], Some([(1, 1, 0), (1, 0, 1)])),
-        ([(3, 1, 0), (3, 0, 1)], Some([(5, 1, 0), (2, 0, 1)])),
-        ([(1, 1, 0), (1, 0, 0)], None),
-        ([(1, 1, 0), (1, 0, 9999)], None),
-    ] {
-        let d = polynomial(alloc, &ring, &divisor)?;
-        match (exact(&ring, alloc, &squares, &d)?, expected) {
-            (Some(quotient), Some(terms)) => assert!(rt; is_list(&ring, &quotient, &terms)),
-            (None, None) => {}
-            _ => return Err("a quotient too many or too few".into()),
-        }
-    }
-    Ok(())
-}
-
-// The place of the greatest term, by a call that knows of a ring and of an order alone.
-fn led<R: Ring, O: MonoOrder>(ring: &PolyRing<R>, f: &Poly<R>, order: &O) -> Option<u32>
-    requires polynomial { IsNormal (R.ops ring.now.coeffs) (R.is_element ring.now.coeffs) ring.now.vars f.now }
-    requires suits { O.fits order.now ring.now.vars }
-{
-    ring.lead(f, order)
-}
-
-#[test]
-fn finds_the_greatest_term(rt: HostRuntime) -> Result<(), Fail> {
-    let alloc = rt.alloc();
-    let ring = PolyRing::new(Gf::new(7)?, 2);
-    let blocks = Blocks::new(vec![in alloc; 1, 2]?);
-    let f = polynomial(alloc, &ring, &[(1, 1, 0), (1, 0, 2), (1, 0, 1)])?;
-    assert_eq!(rt; led(&ring, &f, &Grevlex), Some(1), "y^2");
-    assert_eq!(rt; led(&ring, &f, &blocks), Some(0), "x");
-    assert_eq!(rt; led(&ring, &ring.zero(alloc)?, &Grevlex), None);
     Ok(())
 }

@@ -46,7 +46,7 @@ use Rattle.rinv_soundness.proofs.Vanishing.{lasts}
 use Rattle.rinv_soundness.proofs.FullParts.{FullParts, full_parts}
 use Rattle.rinv_soundness.proofs.CertificateRewriting.{certificate_rewriting}
 use Rattle.rinv_soundness.proofs.DividingRelations.{rest_exists}
-use Rattle.rinv_theory.proofs.Search.{Enumeration, pairs, formal_sums, searched}
+use Rattle.rinv_soundness.proofs.Searching.{Searchable, numbers, pairs, lists, choose, Passing}
 
 -- ---- existence
 
@@ -142,12 +142,12 @@ is_denoted p c f e =
     && (rational_ops p).same ((rational_ops p).mul (value_at p c e.0) (over_1 p f.1)) ((rational_ops p).mul (over_1 p f.0) (value_at p c e.1))
 
 -- a search of the expressions
-expressions : Enumeration Expression
-expressions = pairs formal_sums formal_sums
+expressions : Searchable Expression
+expressions = pairs (lists (pairs (lists numbers) numbers)) (lists (pairs (lists numbers) numbers))
 
 -- the expression that is found, in as many symbols as there are fractions
 pub expressed : (p : ℕ) (c : List Fraction) (f : Fraction) → ∥ ((e : Expression) × Denotes p c e f) ∥₁ → IsExpressed p c f
-expressed p c f some = with_expression (searched expressions (is_denoted p c f) (∥∥₁_map some (λ (e, d). (e, tested e d))))
+expressed p c f some = with_expression (choose expressions (is_denoted p c f) (∥∥₁_map some (λ (e, d). (e, tested e d))))
   where
     tested : (e : Expression) → Denotes p c e f → is_denoted p c f e ≡ true
     tested e d = and_true _ _ (differs _ d.defined) d.equal
@@ -156,7 +156,7 @@ expressed p c f some = with_expression (searched expressions (is_denoted p c f) 
         differs true n = absurd (n refl)
         differs false n = refl
 
-    with_expression : (e : Expression) × (is_denoted p c f e ≡ true) → IsExpressed p c f
+    with_expression : Passing (is_denoted p c f) → IsExpressed p c f
     with_expression (e, t) =
         let parts = both (not ((rational_ops p).same (value_at p c e.1) (rational_ops p).zero)) ((rational_ops p).same ((rational_ops p).mul (value_at p c e.0) (over_1 p f.1)) ((rational_ops p).mul (over_1 p f.0) (value_at p c e.1))) t in
         record {

@@ -20,6 +20,7 @@ pub mod SettledEntries
 pub mod CoveredLeads
 pub mod TiedRelations
 pub mod LowestOfBasis
+pub mod Searching
 pub mod CertificateRewriting
 pub mod DividingRelations
 pub mod Expressed

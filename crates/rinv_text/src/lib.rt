@@ -4,29 +4,14 @@
 mod fault;
 mod form;
 mod fraction;
-pub mod laws;
-mod limits;
 mod names;
-mod parser;
-mod partial;
 mod polynomial;
-mod reading;
-#[cfg(test)]
-mod reading_tests;
-mod size;
-mod step;
-mod system;
 mod terms;
 #[cfg(test)]
 mod tests;
-mod token;
-mod tokens;
-mod value;
 
 pub use fault::{TextCode, TextFault, TextStop};
-pub use form::{has_name_form, is_digit, is_letter};
+pub use form::has_name_form;
 pub use fraction::write_fraction;
 pub use names::Names;
 pub use polynomial::{write_poly, written};
-pub use reading::{is_expression, read_bytes, read_poly};
-pub use system::System;

@@ -114,8 +114,8 @@ impl Names {
         }
     }
 
-    /// No names.
-    pub fn empty(alloc: Global) -> Names
+    // No names.
+    fn empty(alloc: Global) -> Names
         ensures { result ≡ [] }
     {
         Names {
@@ -123,15 +123,15 @@ impl Names {
         }
     }
 
-    /// Whether the word has the form of a name and does not stand here.
-    pub fn may_add(&self, word: &str) -> bool
+    // Whether the word has the form of a name and does not stand here.
+    fn may_add(&self, word: &str) -> bool
         ensures { result ≡ is_new_name self.now word.now }
     {
         has_name_form(word.as_bytes()) && !self.set.contains(word)
     }
 
-    /// Puts a name behind the others, none of which it is.
-    pub fn push(&mut self, name: String) -> Result<(), NoMemory>
+    // Puts a name behind the others, none of which it is.
+    fn push(&mut self, name: String) -> Result<(), NoMemory>
         requires { list_any (bytes_eq (string_bytes name)) self.old ≡ false }
         ensures { OnOk result (self.new ≡ self.old ++ string_bytes name ∷ []) }
     {

@@ -34,15 +34,6 @@ fn one(alloc: Global, name: &str) -> Result<Names, TextStop>
     Ok(names)
 }
 
-// The names a, a' and a'', and then x.
-fn primed_and_x(alloc: Global) -> Result<Names, TextStop> {
-    let a = one(alloc, "a")?;
-    let x = one(alloc, "x")?;
-    let copies = a.copies(alloc, 3)?;
-    let all = copies.joined(alloc, &x)?;
-    Ok(all)
-}
-
 // The names, each with a space behind it.
 fn line(alloc: Global, names: &Names) -> Result<Vec<u8>, NoMemory> {
     let mut text = Vec::new(alloc);
@@ -71,50 +62,6 @@ fn polynomial(
     }
     let sum = ring.from_terms(alloc, terms)?;
     Ok(sum)
-}
-
-// The names y1, y2 and y3.
-fn three_symbols(alloc: Global) -> Result<Names, NoMemory>
-    ensures { IfOk result (λ n. length n ≡ 3) }
-{
-    let names = Names::symbols(alloc, 3)?;
-    Ok(names)
-}
-
-// The text of a fraction.
-fn fraction(
-    alloc: Global,
-    ring: &PolyRing<Gf>,
-    names: &Names,
-    num: &[(u32, u32, u32, u32)],
-    den: &[(u32, u32, u32, u32)],
-) -> Result<Vec<u8>, RingFault>
-    requires field { ring.now.coeffs ≡ 7 }
-    requires count { ring.now.vars ≡ 3 }
-    requires names { length names.now ≡ 3 }
-{
-    let num = polynomial(alloc, ring, num)?;
-    let den = polynomial(alloc, ring, den)?;
-    let mut out = Vec::new(alloc);
-    write_fraction(alloc, &num, &den, names, &mut out)?;
-    Ok(out)
-}
-
-// The text of a polynomial, behind `f = `.
-fn equation(
-    alloc: Global,
-    ring: &PolyRing<Gf>,
-    names: &Names,
-    f: &[(u32, u32, u32, u32)],
-) -> Result<Vec<u8>, RingFault>
-    requires field { ring.now.coeffs ≡ 7 }
-    requires count { ring.now.vars ≡ 3 }
-    requires names { length names.now ≡ 3 }
-{
-    let f = polynomial(alloc, ring, f)?;
-    let mut out = Vec::from_slice(alloc, b"f = ")?;
-    write_poly(alloc, &f, names, &mut out)?;
-    Ok(out)
 }
 
 #[test]
@@ -157,7 +104,10 @@ fn makes_lists_of_names(rt: HostRuntime) -> Result<(), Fail> {
         text.as_slice(),
         b"y1 y2 y3 y4 y5 y6 y7 y8 y9 y10 y11 ".as_slice()
     );
-    let all = primed_and_x(alloc)?;
+    let a = one(alloc, "a")?;
+    let x = one(alloc, "x")?;
+    let copies = a.copies(alloc, 3)?;
+    let all = copies.joined(alloc, &x)?;
     let text = line(alloc, &all)?;
     assert_eq!(rt; text.as_slice(), b"a a' a'' x ".as_slice());
     assert_eq!(rt; all.place("a'"), Some(1));
@@ -169,7 +119,7 @@ fn makes_lists_of_names(rt: HostRuntime) -> Result<(), Fail> {
 fn prints_polynomials_and_fractions(rt: HostRuntime) -> Result<(), Fail> {
     let alloc = rt.alloc();
     let ring = PolyRing::new(Gf::new(7)?, 3);
-    let names = three_symbols(alloc)?;
+    let names = Names::symbols(alloc, 3)?;
     for (num, den, text) in [
         ([].as_slice(), [(1, 0, 0, 0)].as_slice(), "0"),
         ([(1, 0, 0, 0)].as_slice(), [(1, 0, 0, 0)].as_slice(), "1"),
@@ -189,10 +139,15 @@ fn prints_polynomials_and_fractions(rt: HostRuntime) -> Result<(), Fail> {
             "y1/(y2*y3)",
         ),
     ] {
-        let printed = fraction(alloc, &ring, &names, num, den)?;
-        assert_eq!(rt; printed.as_slice(), text.as_bytes());
+        let num = polynomial(alloc, &ring, num)?;
+        let den = polynomial(alloc, &ring, den)?;
+        let mut out = Vec::new(alloc);
+        write_fraction(alloc, &num, &den, &names, &mut out)?;
+        assert_eq!(rt; out.as_slice(), text.as_bytes());
     }
-    let printed = equation(alloc, &ring, &names, &[(1, 0, 0, 2), (2, 0, 1, 1)])?;
-    assert_eq!(rt; printed.as_slice(), b"f = 2*y2*y3 + y3^2".as_slice());
+    let square = polynomial(alloc, &ring, &[(1, 0, 0, 2), (2, 0, 1, 1)])?;
+    let mut out = Vec::from_slice(alloc, b"f = ")?;
+    write_poly(alloc, &square, &names, &mut out)?;
+    assert_eq!(rt; out.as_slice(), b"f = 2*y2*y3 + y3^2".as_slice());
     Ok(())
 }

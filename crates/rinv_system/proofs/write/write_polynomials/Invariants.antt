@@ -1,8 +1,0 @@
-use Rattle.std.proofs.Common.{◌≡◌, ◌++◌, ◌==◌, ℕ, List, [], ◌∷◌, length, map, take, codes, decimal, nat_lt, All, IsTrue, ◌+◌, ◌-◌, ◌*◌, ◌<◌, ◌≤◌}
-use Rattle.rinv_defs.specs.Text.{poly_text}
-use Rattle.rinv_system.specs.Written.{list_text}
-use Rattle.rinv_system.specs.Writing.{AreOver, WhereAllStored}
-use Rattle.rinv_system.proofs.write.write_polynomials.Given as goal
-
-abbrev pub invariant-polynomials : goal.invariant-polynomials
-invariant-polynomials l = WhereAllStored (length l.names) l.polynomials (λ p. l.out.items ≡ l.initial.out.items ++ list_text (take l.k (map (poly_text p l.names) l.polynomials)))

@@ -1,5 +1,0 @@
-use Rattle.rinv_text.proofs.laws.texts_have_one_reading.Goals as goal
-use Rattle.rinv_text.proofs.OneReading.{has_one_reading}
-
-pub returns : goal.returns
-returns c = has_one_reading
