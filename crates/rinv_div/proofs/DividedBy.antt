@@ -1,0 +1,78 @@
+-- The divisors of a list: which of its elements can cancel a monomial.
+use Rattle.std.proofs.Common.{◌≡◌, ℕ, zero, suc, ◌+◌, ◌<◌, ◌≤◌, Bool, true, false, not, ◌&&◌, List, [], ◌∷◌, ◌++◌, length, length-append, get_or, take, reverse, All, refl, sym, ap, ◌∙◌, arith, subst, inl, inr, IsTrue, true≢false}
+use Rattle.std.proofs.lemmas.Bool.{cases_Bool, cases_order}
+use Rattle.std.proofs.lemmas.List.{get_or_append_left, take_more}
+use Rattle.std.specs.declared.cmp.Ordering.{Ordering}
+use Rattle.rinv_algebra.specs.Ring.{RingOps, RingLaws, IsSame}
+use Rattle.rinv_algebra.specs.Monomial.{divides}
+use Rattle.rinv_algebra.specs.MonomialOrder.{MonoOrderLaws}
+use Rattle.rinv_algebra.specs.Polynomial.{Polynomial}
+use Rattle.rinv_groebner.specs.Division.{is_reducible, lead_divides}
+use Rattle.rinv_groebner.proofs.Reducible.{first_divisor}
+use Rattle.rinv_div.specs.Divisors.{IsDivisor, AreDivisors, Adds}
+use Rattle.rinv_div.specs.declared.divisors.Divisor.{Divisor}
+use Rattle.rinv_div.proofs.Turns.{IsFirst}
+
+module _ {R E : Type 0} (o : RingOps E) (l : RingLaws o) (is_element : E → Bool) (v : ℕ) (cmp : List ℕ → List ℕ → Ordering) (laws : MonoOrderLaws cmp) where
+  pub divisors-nil : AreDivisors {R = R} o is_element v cmp [] []
+  divisors-nil = record { number = refl; each = λ k d b. absurd (omega arith) }
+
+  -- one more on both sides
+  pub divisors-more : (hs : List (Polynomial E)) (h : Polynomial E) (ds after : List (Divisor R E)) → AreDivisors o is_element v cmp hs ds → Adds o is_element v cmp h ds after → AreDivisors o is_element v cmp (hs ++ h ∷ []) after
+  divisors-more hs h ds after a more = rw more.items (record {
+    number = length-append ds (more.added ∷ []) ∙ ap (λ (n : ℕ). n + 1) a.number ∙ sym (length-append hs (h ∷ []));
+    each = λ k d b. elim (cases_order k (length ds)) [
+      | inl same ↦ at k d same
+      | inr (inl before) ↦
+          rw (get_or_append_left hs (h ∷ []) [] k (omega (arith, a.number, before)), get_or_append_left ds (more.added ∷ []) d k before) (a.each k d before)
+      | inr (inr after) ↦ absurd (omega (arith, length-append ds (more.added ∷ [])))
+    ];
+  })
+    where
+      at : (k : ℕ) (d : Divisor R E) → k ≡ length ds → IsDivisor o is_element v cmp (get_or (hs ++ h ∷ []) k []) (get_or (ds ++ more.added ∷ []) k d)
+      at k d same = rw (same, last ds more.added d, ap (λ (n : ℕ). get_or (hs ++ h ∷ []) n []) a.number, last hs h []) more.of_it
+
+      last : {X : Type 0} (xs : List X) (x d : X) → get_or (xs ++ x ∷ []) (length xs) d ≡ x
+      last [] x d = refl
+      last (y ∷ xs) x d = last xs x d
+
+  module _ (hs : List (Polynomial E)) (ds : List (Divisor R E)) (are : AreDivisors o is_element v cmp hs ds) where
+    -- at a place, the leading monomial of the divisor decides
+    by-lead : (k : ℕ) (d : Divisor R E) (m : List ℕ) → k < length ds → lead_divides o cmp (get_or hs k []) m ≡ divides (get_or ds k d).lead m
+    by-lead k d m b = let a = are.each k d b in rw (a.nonzero, a.lead) refl
+
+    pub lead-lengths : All (λ d. length d.lead ≡ v) ds
+    lead-lengths k d b = (are.each k d b).vars
+
+    pub none-divides : (m : List ℕ) → All (λ d. divides d.lead m ≡ false) ds → is_reducible o cmp hs m ≡ false
+    none-divides m none = elim (cases_Bool (is_reducible o cmp hs m)) [
+      | inl r ↦
+          let f = first_divisor o l cmp hs m r in
+          absurd (none-at f.0 f.1 f.2)
+      | inr off ↦ off
+    ]
+      where
+        some : (k : ℕ) → k < length ds → Divisor R E
+        some k b = at ds k b
+          where
+            at : (xs : List (Divisor R E)) (k : ℕ) → k < length xs → Divisor R E
+            at [] k b = absurd (omega arith)
+            at (x ∷ xs) k b = x
+
+        none-at : (k : ℕ) → k < length hs → IsTrue (lead_divides o cmp (get_or hs k []) m) × ((j : ℕ) → j < k → lead_divides o cmp (get_or hs j []) m ≡ false) → ⊥
+        none-at k b h =
+            let c : k < length ds = omega (arith, b, are.number) in
+            let d = some k c in
+            true≢false (sym h.0 ∙ by-lead k d m c ∙ none k d c)
+
+    pub first-divides : (m : List ℕ) (k : ℕ) (d : Divisor R E) → k < length ds → IsTrue (divides (get_or ds k d).lead m) → ((j : ℕ) (d : Divisor R E) → j < k → divides (get_or ds j d).lead m ≡ false) → IsFirst o l is_element v cmp laws hs m k
+    first-divides m k d b h first = record {
+      inside = omega (arith, b, are.number);
+      divides = by-lead k d m b ∙ h;
+      first = λ j c. by-lead j d m (omega (arith, b, c)) ∙ first j d c;
+    }
+
+  -- the next of a list of polynomials
+  pub divisors-next : (hs : List (Polynomial E)) (i : ℕ) (h : Polynomial E) (ds after : List (Divisor R E)) → i < length hs → h ≡ get_or hs i h → AreDivisors o is_element v cmp (take i hs) ds → Adds o is_element v cmp h ds after → AreDivisors o is_element v cmp (take (i + 1) hs) after
+  divisors-next hs i h ds after b is a more =
+      subst (λ (r : List (Polynomial E)). AreDivisors o is_element v cmp r after) (sym (take_more hs i h b ∙ ap (λ r. take i hs ++ r ∷ []) (sym is))) (divisors-more (take i hs) h ds after a more)

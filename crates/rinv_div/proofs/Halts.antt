@@ -1,0 +1,117 @@
+-- Why a division stops, from its state between two terms.
+use Rattle.std.proofs.Common.{◌≡◌, ℕ, zero, suc, ◌+◌, ◌<◌, ◌≤◌, Bool, true, false, not, List, [], ◌∷◌, ◌++◌, length, get_or, reverse, map, All, refl, sym, ap, ◌∙◌, arith, subst, inl, inr, ◌⊎◌, IsTrue, true≢false}
+use Rattle.std.specs.Prelude.{Option, Some, None, IfSome, Contains}
+use Rattle.std.proofs.lemmas.Bool.{cases_Bool}
+use Rattle.std.proofs.lemmas.List.Elements.{All-contains}
+use Rattle.std.specs.declared.cmp.Ordering.{Ordering}
+use Rattle.std.specs.declared.cmp.Ordering.TheVariants.{Less}
+use Rattle.rinv_algebra.specs.Ring.{RingOps, RingLaws, IsSame}
+use Rattle.rinv_algebra.specs.Monomial.{same_monomial, monomial_product, quotient, divides, total_degree, max_degree}
+use Rattle.rinv_algebra.specs.MonomialOrder.{MonoOrderLaws}
+use Rattle.rinv_algebra.specs.Polynomial.{Term, Polynomial, poly_ops, coefficient, has_monomial}
+use Rattle.rinv_algebra.specs.Leading.{leading_monomial, leading_coefficient}
+use Rattle.rinv_algebra.proofs.RingFacts as facts
+use Rattle.rinv_algebra.proofs.MonomialLaws.{same_monomial_refl}
+use Rattle.rinv_groebner.proofs.Reducible.{divisor_reducible}
+use Rattle.rinv_ring.specs.Operation.{RingOp}
+use Rattle.rinv_ring.specs.Fault.{DegreesMeet}
+use Rattle.rinv_ring.specs.declared.fault.RingFault.{RingFault}
+use Rattle.rinv_ring.specs.declared.fault.RingFault.TheVariants.{Degree as DegreeFault}
+use Rattle.rinv_poly.specs.Faults.{HasDegree, IsDegreeOf, TermsMeet, OperationsMeet}
+use Rattle.rinv_poly.proofs.Dividing.{product-quotient}
+use Rattle.rinv_poly.proofs.Forms.{IsNormalTerm}
+use Rattle.rinv_poly.proofs.Gather.{same-back}
+use Rattle.rinv_div.specs.Arranged.{IsArranged}
+use Rattle.rinv_div.specs.Divisors.{IsDivisor, AreDivisors, IsInverse}
+use Rattle.rinv_div.specs.Stops.{ProductMeets, Leaves, RunsOut, NextMeets, MeetsDegree, StepsMeet, StopsBy}
+use Rattle.rinv_div.specs.declared.budget.Budget.{Budget}
+use Rattle.rinv_div.specs.declared.divisors.Divisor.{Divisor}
+use Rattle.rinv_div.specs.declared.stop.DivStop.{DivStop}
+use Rattle.rinv_div.specs.declared.stop.DivStop.TheVariants.{Steps, Degree, NoMemory}
+use Rattle.rinv_div.proofs.Arranging.{Below, arranged-terms, later-coefficient, place-coefficient}
+use Rattle.rinv_div.proofs.Leads.{has-same}
+use Rattle.rinv_div.proofs.Rounds.{IsRound, round-steps, round-has, round-next, round-term}
+use Rattle.rinv_div.proofs.SumAt.{Contains-reverse}
+use Rattle.rinv_div.proofs.Spending.{all-spent}
+use Rattle.rinv_div.proofs.Turns.{IsFirst}
+
+pub inverse-element : {E : Type 0} (o : RingOps E) (is_element : E → Bool) (c : E) (b : Option E) → IsInverse o is_element c b → IfSome b (λ x. IsTrue (is_element x))
+inverse-element o is_element c None h = tt
+inverse-element o is_element c (Some x) h = h.0
+
+-- the stop for a fault is one at a degree
+pub stop-meets : {R E : Type 0} (s : DivStop R E) (fault : RingFault) (N : Polynomial E → Type 0) (S : Polynomial E → Type 0) (P : ℕ → ℕ → Type 0) (Q : ℕ → ℕ → Polynomial E → Type 0) → StopsBy (λ _. ⊥) (λ x y _. fault ≡ DegreeFault x y) s → StopsBy (λ _. ⊥) (λ _ _ g. N g) s → DegreesMeet P fault → ((x y : ℕ) (g : Polynomial E) → P x y → N g → Q x y g) → StopsBy S Q s
+stop-meets (Steps w) fault N S P Q a b m h = absurd a
+stop-meets (Degree x y w) fault N S P Q a b m h = h x y w (subst (DegreesMeet P) a m) b
+stop-meets NoMemory fault N S P Q a b m h = tt
+
+pub stop-normal : {R E : Type 0} (s : DivStop R E) (N S : Polynomial E → Type 0) → StopsBy (λ _. ⊥) (λ _ _ g. N g) s → StopsBy S (λ _ _ g. N g) s
+stop-normal (Steps w) N S b = absurd b
+stop-normal (Degree x y w) N S b = b
+stop-normal NoMemory N S b = tt
+
+module _ {R E : Type 0} (o : RingOps E) (l : RingLaws o) (is_element : E → Bool) (v : ℕ) (cmp : List ℕ → List ℕ → Ordering) (laws : MonoOrderLaws cmp) where
+  -- the divisor at a place, as it is read
+  pub divisor-at : (hs : List (Polynomial E)) (ds : List (Divisor R E)) → AreDivisors o is_element v cmp hs ds → (k : ℕ) (d : Divisor R E) → k < length ds → d ≡ get_or ds k d → IsDivisor o is_element v cmp (get_or hs k []) d
+  divisor-at hs ds are k d b is = subst (IsDivisor o is_element v cmp (get_or hs k [])) (sym is) (are.each k d b)
+
+  -- the polynomial has the monomials of the divisor's tail
+  tail-has : (h : Polynomial E) (d : Divisor R E) → IsDivisor o is_element v cmp h d → (u : Term E) → Contains (reverse d.tail.items) u → has_monomial o h u.0 ≡ true
+  tail-has h d n u in_tail =
+      let tail = reverse d.tail.items in
+      let first : Term E = (d.lead, leading_coefficient o cmp h) in
+      let less : cmp u.0 d.lead ≡ Less = All-contains (λ t. cmp t.0 d.lead ≡ Less) tail u n.below in_tail in
+      let term : IsNormalTerm o is_element v u = All-contains (IsNormalTerm o is_element v) tail u (arranged-terms cmp o is_element v tail n.tail) in_tail in
+      let here : IsSame o (coefficient o (first ∷ tail) u.0) u.1 = subst (λ (c : E). IsSame o c u.1) (sym (later-coefficient cmp laws o l first tail u.0 less)) (place-coefficient cmp laws o l is_element v tail n.tail u in_tail) in
+      has-same o l is_element v cmp laws (first ∷ tail) h u.0 (same-back o l h (first ∷ tail) n.whole)
+      (elim (cases_Bool (o.same (coefficient o (first ∷ tail) u.0) o.zero)) [
+        | inl zero ↦ absurd (true≢false (sym (facts.then o l (facts.back o l here) zero) ∙ term.nonzero))
+        | inr off ↦ ap not off
+      ])
+
+  module _ (hs : List (Polynomial E)) (f : Polynomial E) (before now : Budget) (qs : List (Polynomial E)) (rest w left back g : Polynomial E) (t : Term E) (place : ℕ) (taken : w ≡ left ++ t ∷ []) (put_back : back ≡ left ++ t ∷ []) (same : IsSame (poly_ops o) g (rest ++ reverse back)) (h : IsRound o l is_element v cmp laws hs f before now qs rest w) (first : IsFirst o l is_element v cmp laws hs t.0 place) where
+    so-far : Leaves o cmp hs f before now g
+    so-far = record { steps = h.steps; by_steps = round-steps o l is_element v cmp laws hs f before now qs rest w left t taken h back g put_back same; spent = h.spent }
+
+    pub runs-out : now.endless ≡ false → now.steps ≤ now.steps_spent → RunsOut o cmp hs f before now g
+    runs-out endless over = record {
+      so_far = so-far;
+      endless = endless;
+      all_spent = all-spent now h.within endless over;
+      reducible = t.0;
+      has = round-has o l is_element v cmp laws hs f before now qs rest w left t taken h back g put_back same;
+      is_reducible = divisor_reducible o l cmp hs t.0 place first.inside first.divides;
+    }
+
+    pub meets-degree : (too_high : RingOp → E → E → ℕ → ℕ → Type 0) (d : Divisor R E) → IsDivisor o is_element v cmp (get_or hs place []) d → IsTrue (divides d.lead t.0) → (now.endless ≡ false → now.steps_spent < now.steps) → (c : E) (x y : ℕ) → TermsMeet ((quotient t.0 d.lead, c) ∷ []) d.tail.items x y ⊎ OperationsMeet too_high x y → MeetsDegree o cmp hs f too_high before now x y g
+    meets-degree too_high d n divide room c x y m = record {
+      so_far = so-far;
+      step_left = room;
+      meets = record {
+        cancelled = t.0;
+        place = place;
+        next = round-next o l is_element v cmp laws hs f before now qs rest w left t taken h back g place put_back same first;
+        multiplier = quotient t.0 d.lead;
+        monomial = subst (λ (r : List ℕ). same_monomial (monomial_product (quotient t.0 d.lead) r) t.0 ≡ true) n.lead
+            (subst (λ (r : List ℕ). same_monomial r t.0 ≡ true) (sym (product-quotient t.0 d.lead divide ((round-term o l is_element v cmp laws hs f before now qs rest w left t taken h).vars ∙ sym n.vars))) (same_monomial_refl t.0));
+        meets = elim m [
+          | inl terms ↦ inl (record {
+            left = multiplier-degree terms.left;
+            right = record { monomial = terms.right.term.0; has = tail-has (get_or hs place []) d n terms.right.term (Contains-reverse d.tail.items terms.right.term terms.right.has); degree = terms.right.degree };
+            over = terms.over;
+          })
+          | inr operation ↦ inr operation
+        ];
+      };
+    }
+      where
+        multiplier-degree : IsDegreeOf ((quotient t.0 d.lead, c) ∷ []) x → total_degree (quotient t.0 d.lead) ≡ x
+        multiplier-degree i = go i.term i.has ∙ i.degree
+          where
+            go : (u : Term E) → Contains ((quotient t.0 d.lead, c) ∷ []) u → total_degree (quotient t.0 d.lead) ≡ total_degree u.0
+            go u (zero, b, e) = ap (λ (r : Term E). total_degree r.0) e
+            go u (suc j, b, e) = absurd (omega arith)
+
+-- a stop at a degree, without what was spent
+pub degree-meets : {E : Type 0} (o : RingOps E) (cmp : List ℕ → List ℕ → Ordering) (hs : List (Polynomial E)) (f : Polynomial E) (too_high : RingOp → E → E → ℕ → ℕ → Type 0) (before after : Budget) (x y : ℕ) (g : Polynomial E) → MeetsDegree o cmp hs f too_high before after x y g → StepsMeet o cmp hs f too_high x y
+degree-meets o cmp hs f too_high before after x y g m = record { steps = m.so_far.steps; working = g; by_steps = m.so_far.by_steps; meets = m.meets }

@@ -1,0 +1,17 @@
+pub mod OrderFacts
+pub mod Arranging
+pub mod Replaced
+pub mod MovedLast
+pub mod Halves
+pub mod Factors
+pub mod SumAt
+pub mod Leads
+pub mod StepSum
+pub mod Halved
+pub mod DistinctFalls
+pub mod MadeOf
+pub mod Turns
+pub mod Spending
+pub mod DividedBy
+pub mod Rounds
+pub mod Halts

@@ -1,0 +1,4 @@
+pub mod Budgets
+pub mod Arranged
+pub mod Divisors
+pub mod Stops
