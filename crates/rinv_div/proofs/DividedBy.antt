@@ -29,12 +29,12 @@ module _ {R E : Type 0} (o : RingOps E) (l : RingLaws o) (is_element : E → Boo
     ];
   })
     where
-      at : (k : ℕ) (d : Divisor R E) → k ≡ length ds → IsDivisor o is_element v cmp (get_or (hs ++ h ∷ []) k []) (get_or (ds ++ more.added ∷ []) k d)
-      at k d same = rw (same, last ds more.added d, ap (λ (n : ℕ). get_or (hs ++ h ∷ []) n []) a.number, last hs h []) more.of_it
-
       last : {X : Type 0} (xs : List X) (x d : X) → get_or (xs ++ x ∷ []) (length xs) d ≡ x
       last [] x d = refl
       last (y ∷ xs) x d = last xs x d
+
+      at : (k : ℕ) (d : Divisor R E) → k ≡ length ds → IsDivisor o is_element v cmp (get_or (hs ++ h ∷ []) k []) (get_or (ds ++ more.added ∷ []) k d)
+      at k d same = rw (same, last ds more.added d, ap (λ (n : ℕ). get_or (hs ++ h ∷ []) n []) a.number, last hs h []) more.of_it
 
   module _ (hs : List (Polynomial E)) (ds : List (Divisor R E)) (are : AreDivisors o is_element v cmp hs ds) where
     -- at a place, the leading monomial of the divisor decides
@@ -47,7 +47,7 @@ module _ {R E : Type 0} (o : RingOps E) (l : RingLaws o) (is_element : E → Boo
     pub none-divides : (m : List ℕ) → All (λ d. divides d.lead m ≡ false) ds → is_reducible o cmp hs m ≡ false
     none-divides m none = elim (cases_Bool (is_reducible o cmp hs m)) [
       | inl r ↦
-          let f = first_divisor o l cmp hs m r in
+          let f = first_divisor o cmp hs m r in
           absurd (none-at f.0 f.1 f.2)
       | inr off ↦ off
     ]
@@ -59,11 +59,11 @@ module _ {R E : Type 0} (o : RingOps E) (l : RingLaws o) (is_element : E → Boo
             at [] k b = absurd (omega arith)
             at (x ∷ xs) k b = x
 
-        none-at : (k : ℕ) → k < length hs → IsTrue (lead_divides o cmp (get_or hs k []) m) × ((j : ℕ) → j < k → lead_divides o cmp (get_or hs j []) m ≡ false) → ⊥
+        none-at : (k : ℕ) → k < length hs → IsTrue (lead_divides o cmp (get_or hs k []) m) → ⊥
         none-at k b h =
             let c : k < length ds = omega (arith, b, are.number) in
             let d = some k c in
-            true≢false (sym h.0 ∙ by-lead k d m c ∙ none k d c)
+            true≢false (sym h ∙ by-lead k d m c ∙ none k d c)
 
     pub first-divides : (m : List ℕ) (k : ℕ) (d : Divisor R E) → k < length ds → IsTrue (divides (get_or ds k d).lead m) → ((j : ℕ) (d : Divisor R E) → j < k → divides (get_or ds j d).lead m ≡ false) → IsFirst o l is_element v cmp laws hs m k
     first-divides m k d b h first = record {

@@ -50,13 +50,13 @@ stop-normal (Steps w) N S b = absurd b
 stop-normal (Degree x y w) N S b = b
 stop-normal NoMemory N S b = tt
 
-module _ {R E : Type 0} (o : RingOps E) (l : RingLaws o) (is_element : E → Bool) (v : ℕ) (cmp : List ℕ → List ℕ → Ordering) (laws : MonoOrderLaws cmp) where
+module _ {E : Type 0} (o : RingOps E) (l : RingLaws o) (is_element : E → Bool) (v : ℕ) (cmp : List ℕ → List ℕ → Ordering) (laws : MonoOrderLaws cmp) where
   -- the divisor at a place, as it is read
-  pub divisor-at : (hs : List (Polynomial E)) (ds : List (Divisor R E)) → AreDivisors o is_element v cmp hs ds → (k : ℕ) (d : Divisor R E) → k < length ds → d ≡ get_or ds k d → IsDivisor o is_element v cmp (get_or hs k []) d
+  pub divisor-at : {R : Type 0} → (hs : List (Polynomial E)) (ds : List (Divisor R E)) → AreDivisors o is_element v cmp hs ds → (k : ℕ) (d : Divisor R E) → k < length ds → d ≡ get_or ds k d → IsDivisor o is_element v cmp (get_or hs k []) d
   divisor-at hs ds are k d b is = subst (IsDivisor o is_element v cmp (get_or hs k [])) (sym is) (are.each k d b)
 
   -- the polynomial has the monomials of the divisor's tail
-  tail-has : (h : Polynomial E) (d : Divisor R E) → IsDivisor o is_element v cmp h d → (u : Term E) → Contains (reverse d.tail.items) u → has_monomial o h u.0 ≡ true
+  tail-has : {R : Type 0} → (h : Polynomial E) (d : Divisor R E) → IsDivisor o is_element v cmp h d → (u : Term E) → Contains (reverse d.tail.items) u → has_monomial o h u.0 ≡ true
   tail-has h d n u in_tail =
       let tail = reverse d.tail.items in
       let first : Term E = (d.lead, leading_coefficient o cmp h) in
@@ -65,7 +65,7 @@ module _ {R E : Type 0} (o : RingOps E) (l : RingLaws o) (is_element : E → Boo
       let here : IsSame o (coefficient o (first ∷ tail) u.0) u.1 = subst (λ (c : E). IsSame o c u.1) (sym (later-coefficient cmp laws o l first tail u.0 less)) (place-coefficient cmp laws o l is_element v tail n.tail u in_tail) in
       has-same o l is_element v cmp laws (first ∷ tail) h u.0 (same-back o l h (first ∷ tail) n.whole)
       (elim (cases_Bool (o.same (coefficient o (first ∷ tail) u.0) o.zero)) [
-        | inl zero ↦ absurd (true≢false (sym (facts.then o l (facts.back o l here) zero) ∙ term.nonzero))
+        | inl none ↦ absurd (true≢false (sym (facts.then o l (facts.back o l here) none) ∙ term.nonzero))
         | inr off ↦ ap not off
       ])
 
@@ -80,10 +80,10 @@ module _ {R E : Type 0} (o : RingOps E) (l : RingLaws o) (is_element : E → Boo
       all_spent = all-spent now h.within endless over;
       reducible = t.0;
       has = round-has o l is_element v cmp laws hs f before now qs rest w left t taken h back g put_back same;
-      is_reducible = divisor_reducible o l cmp hs t.0 place first.inside first.divides;
+      is_reducible = divisor_reducible o cmp hs t.0 place first.inside first.divides;
     }
 
-    pub meets-degree : (too_high : RingOp → E → E → ℕ → ℕ → Type 0) (d : Divisor R E) → IsDivisor o is_element v cmp (get_or hs place []) d → IsTrue (divides d.lead t.0) → (now.endless ≡ false → now.steps_spent < now.steps) → (c : E) (x y : ℕ) → TermsMeet ((quotient t.0 d.lead, c) ∷ []) d.tail.items x y ⊎ OperationsMeet too_high x y → MeetsDegree o cmp hs f too_high before now x y g
+    pub meets-degree : {R : Type 0} → (too_high : RingOp → E → E → ℕ → ℕ → Type 0) (d : Divisor R E) → IsDivisor o is_element v cmp (get_or hs place []) d → IsTrue (divides d.lead t.0) → (now.endless ≡ false → now.steps_spent < now.steps) → (c : E) (x y : ℕ) → TermsMeet ((quotient t.0 d.lead, c) ∷ []) d.tail.items x y ⊎ OperationsMeet too_high x y → MeetsDegree o cmp hs f too_high before now x y g
     meets-degree too_high d n divide room c x y m = record {
       so_far = so-far;
       step_left = room;

@@ -45,7 +45,7 @@ length-quotients : {E : Type 0} (n : ℕ) (steps : List (Step E)) → length (qu
 length-quotients n steps = length-map-range_with_len (quotient_at steps) 0 n
 
 quotients-at : {E : Type 0} (n : ℕ) (steps : List (Step E)) (k : ℕ) → k < n → get_or (quotients n steps) k (quotient_at steps 0) ≡ quotient_at steps k
-quotients-at n steps k b = get_or-map-range_with_len (quotient_at steps) 0 n k k (quotient_at steps 0) b refl
+quotients-at n steps k b = get_or-map-range_with_len (quotient_at steps) 0 n k k (quotient_at steps 0) b (omega arith)
 
 module _ {E : Type 0} (o : RingOps E) (l : RingLaws o) (is_element : E → Bool) (v : ℕ) (cmp : List ℕ → List ℕ → Ordering) (laws : MonoOrderLaws cmp) (hs : List (Polynomial E)) (f : Polynomial E) where
   -- steps that leave one polynomial leave each that is the same

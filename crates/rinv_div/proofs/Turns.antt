@@ -11,6 +11,7 @@ use Rattle.rinv_algebra.specs.Monomial.{same_monomial, monomial_product, divides
 use Rattle.rinv_algebra.specs.MonomialOrder.{MonoOrderLaws}
 use Rattle.rinv_algebra.specs.Polynomial.{Term, Polynomial, poly_ops, coefficient, has_monomial, is_zero, term_product, difference}
 use Rattle.rinv_algebra.specs.Leading.{leading_monomial, leading_coefficient}
+use Rattle.rinv_algebra.specs.Normal.{is_normal_term}
 use Rattle.rinv_algebra.proofs.RingFacts as facts
 use Rattle.rinv_algebra.proofs.Same.{IsAbsent, coefficient-absent, same-coefficients}
 use Rattle.rinv_algebra.proofs.Weights.{coefficient-append}
@@ -59,7 +60,7 @@ module _ {E : Type 0} (o : RingOps E) (l : RingLaws o) (is_element : E → Bool)
   arranged-left : (rest left : Polynomial E) → IsArranged o is_element v cmp (rest ++ left) → IsArranged o is_element v cmp rest
   arranged-left [] left n = arranged-nil cmp o is_element v
   arranged-left (s ∷ rest) left n = record {
-    terms = All-cons _ s rest (All-head _ s (rest ++ left) n.terms) (arranged-left rest left (arranged-tail cmp o is_element v s (rest ++ left) n)).terms;
+    terms = All-cons (λ t. IsTrue (is_normal_term o is_element v t)) s rest (All-head (λ t. IsTrue (is_normal_term o is_element v t)) s (rest ++ left) n.terms) (arranged-left rest left (arranged-tail cmp o is_element v s (rest ++ left) n)).terms;
     descending = descend-left cmp (s ∷ rest) left n.descending;
   }
 
@@ -110,7 +111,7 @@ module _ {E : Type 0} (o : RingOps E) (l : RingLaws o) (is_element : E → Bool)
     settled-at rest all e r = elim (searched o l e rest) [
       | inl there ↦
           let d : Term E = (e, o.zero) in
-          absurd (true≢false (sym r ∙ sym (reducible-one o l cmp hs (get_or rest there.0 d).0 e (there.2 d)) ∙ all there.0 d there.1))
+          absurd (true≢false (sym r ∙ sym (reducible-one o cmp hs (get_or rest there.0 d).0 e (there.2 d)) ∙ all there.0 d there.1))
       | inr absent ↦ absent
     ]
 
@@ -166,7 +167,7 @@ module _ {E : Type 0} (o : RingOps E) (l : RingLaws o) (is_element : E → Bool)
         (below : Below cmp (leading_monomial o cmp (get_or hs place [])) tail)
         (arranged : IsArranged o is_element v cmp new)
         (same : IsSame (poly_ops o) new (left ++ term_product o (m, o.neg q) tail)) where
-      lead : List ℕ
+      abbrev lead : List ℕ
       lead = leading_monomial o cmp (get_or hs place [])
 
       left-below : Below cmp t.0 left
@@ -184,7 +185,7 @@ module _ {E : Type 0} (o : RingOps E) (l : RingLaws o) (is_element : E → Bool)
       new-whole = arranged-append cmp o is_element v rest new (arranged-left rest (t ∷ left) h.whole) arranged
           (All-weaker (λ s. cmp t.0 s.0 ≡ Less) (λ s. Below cmp s.0 new) (λ s b. All-weaker (λ u. cmp u.0 t.0 ≡ Less) (λ u. cmp u.0 s.0 ≡ Less) (λ u c. laws.total.trans u.0 t.0 s.0 c b) new new-below) rest (under-all rest left t h.whole))
 
-      step : Step E
+      abbrev step : Step E
       step = record { place = place; multiplier = (m, q) }
 
       cancelled-term : IsSame (poly_ops o) (t ∷ []) (term_product o (m, q) ((lead, leading_coefficient o cmp (get_or hs place [])) ∷ []))
