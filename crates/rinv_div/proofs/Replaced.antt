@@ -50,11 +50,13 @@ module _ {E : Type 0} (o : RingOps E) (l : RingLaws o) (is_element : E → Bool)
   changed-later t f [] (u ∷ us) below h = absurd h
   changed-later t f (r ∷ added) [] below h = absurd h
   changed-later t f (r ∷ added) (u ∷ us) below h =
-      let less : cmp r.0 t.0 ≡ Less = subst (λ (m : List ℕ). cmp m t.0 ≡ Less) h.0.monomial (All-head (λ w. cmp w.0 t.0 ≡ Less) u us below) in
-      (record {
-        monomial = h.0.monomial;
-        value = subst (λ (c : E). IsSame o u.1 (o.add c r.1)) (later-coefficient cmp laws o l t f r.0 less) h.0.value;
-      }, changed-later t f added us (All-tail (λ w. cmp w.0 t.0 ≡ Less) u us below) h.1)
+      let less : cmp r.0 t.0 ≡ Less = subst (λ (m : List ℕ). cmp m t.0 ≡ Less) h.0.monomial (All-head (λ w. cmp w.0 t.0 ≡ Less) u us below) in (
+        record {
+          monomial = h.0.monomial;
+          value = subst (λ (c : E). IsSame o u.1 (o.add c r.1)) (later-coefficient cmp laws o l t f r.0 less) h.0.value;
+        },
+        changed-later t f added us (All-tail (λ w. cmp w.0 t.0 ≡ Less) u us below) h.1,
+      )
 
   -- the greatest term that is left stays
   pub replacing-kept : (out f us f0 us0 : Polynomial E) (t : Term E) → IsReplacing out (t ∷ f) us f0 us0 → Below cmp t.0 us → IsReplacing (out ++ t ∷ []) f us f0 us0

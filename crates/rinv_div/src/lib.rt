@@ -14,6 +14,3 @@ pub use budget::Budget;
 pub use dividing::{divide, divide_by, divide_monic};
 pub use divisors::{Divisor, Divisors};
 pub use stop::{DivStop, Division};
-
-
-
