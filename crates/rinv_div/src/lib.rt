@@ -9,6 +9,8 @@ mod replacing;
 mod sorting;
 mod step;
 mod stop;
+#[cfg(test)]
+mod tests;
 
 pub use budget::Budget;
 pub use dividing::{divide, divide_by, divide_monic};
