@@ -212,8 +212,9 @@ fn is_monic<R: Ring, O: MonoOrder>(
     let Some((_mono, c)) = terms.pop() else {
         return Ok(false);
     };
-    let one = ring.coeffs().one(alloc)?;
-    let same = ring.coeffs().same(alloc, &c, &one)?;
+    let coeffs = ring.coeffs();
+    let one = coeffs.one(alloc)?;
+    let same = coeffs.same(alloc, &c, &one)?;
     Ok(same)
 }
 
