@@ -8,6 +8,7 @@ pub mod SumAt
 pub mod Leads
 pub mod StepSum
 pub mod Halved
+pub mod Appended
 pub mod DistinctFalls
 pub mod MadeOf
 pub mod Turns

@@ -62,9 +62,25 @@ pub fn divide_by<R: Ring, O: MonoOrder>(
                     return Err(DivStop::Steps { working });
                 }
                 let divisor = &divisors.list[place];
-                match planned(ring.coeffs(), alloc, ring.vars(), order, divisor, &mono, &c, &working) {
+                match planned(
+                    ring.coeffs(),
+                    alloc,
+                    ring.vars(),
+                    order,
+                    divisor,
+                    &mono,
+                    &c,
+                    &working,
+                ) {
                     Ok((multiplier, factor, changes)) => {
-                        replace(ring.coeffs(), alloc, ring.vars(), order, changes, &mut working)?;
+                        replace(
+                            ring.coeffs(),
+                            alloc,
+                            ring.vars(),
+                            order,
+                            changes,
+                            &mut working,
+                        )?;
                         push_at(place, (multiplier, factor), &mut quotients)?;
                         steps.count_step();
                     }

@@ -9,11 +9,10 @@ mod replacing;
 mod sorting;
 mod step;
 mod stop;
+#[cfg(test)]
+mod tests;
 
 pub use budget::Budget;
 pub use dividing::{divide, divide_by, divide_monic};
 pub use divisors::{Divisor, Divisors};
 pub use stop::{DivStop, Division};
-
-
-

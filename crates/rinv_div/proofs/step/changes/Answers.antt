@@ -1,14 +1,8 @@
-use Rattle.std.proofs.Common.{◌≡◌, ℕ, ◌+◌, ◌<◌, ◌∙◌, sym, ap, arith, List, length, ◌∷◌, [], reverse, rules, take, subst}
+use Rattle.std.proofs.Common.{◌≡◌, ℕ, ◌+◌, ◌<◌, ◌∙◌, sym, arith, ◌∷◌, [], reverse, rules}
 use Rattle.std.proofs.lemmas.List.{take_all}
-use Rattle.std.proofs.lemmas.List.Elements.{All-nil, All-weaker}
 use Rattle.rinv_algebra.specs.Monomial.{total_degree, max_degree}
-use Rattle.rinv_algebra.specs.Polynomial.{Polynomial, Term}
-use Rattle.rinv_ring.specs.Fault.{DegreesMeet}
-use Rattle.rinv_poly.specs.Terms.{IsTerm}
 use Rattle.rinv_poly.specs.Faults.{TermsMeet, OperationsMeet}
 use Rattle.rinv_poly.proofs.Meets.{meet-weaker, meet-first, meet-second, meet-item}
-use Rattle.rinv_div.proofs.Arranging.{arranged-terms}
-use Rattle.rinv_div.proofs.MovedLast.{All-reversed}
 use Rattle.rinv_div.proofs.Factors.{changing-start, changing-more, changing-end, vars-at, element-at}
 use Rattle.rinv_div.proofs.step.changes.Goals as goal
 

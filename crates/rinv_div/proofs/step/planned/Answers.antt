@@ -1,6 +1,5 @@
-use Rattle.std.proofs.Common.{◌≡◌, ℕ, ◌∙◌, sym, ap, reverse, rules, ◌∷◌, [], List}
+use Rattle.std.proofs.Common.{ℕ, rules, ◌∷◌, []}
 use Rattle.rinv_algebra.specs.Monomial.{quotient}
-use Rattle.rinv_ring.specs.Fault.{DegreesMeet}
 use Rattle.rinv_poly.specs.Faults.{TermsMeet, OperationsMeet}
 use Rattle.rinv_poly.proofs.Meets.{meet-first_weaker}
 use Rattle.rinv_div.proofs.Factors.{meets-other}

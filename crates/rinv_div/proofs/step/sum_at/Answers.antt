@@ -1,7 +1,6 @@
-use Rattle.std.proofs.Common.{◌≡◌, ◌<◌, List, ℕ, arith, length, get_or}
+use Rattle.std.proofs.Common.{◌≡◌, length, get_or}
 use Rattle.std.proofs.lemmas.List.{get_or_default}
 use Rattle.rinv_algebra.specs.Polynomial.{Term}
-use Rattle.rinv_poly.proofs.Meets.{at_some}
 use Rattle.rinv_div.proofs.Arranging.{arranged-vars}
 use Rattle.rinv_div.proofs.Factors.{element-at}
 use Rattle.rinv_div.proofs.MovedLast.{All-reversed}
