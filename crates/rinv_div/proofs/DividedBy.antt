@@ -14,6 +14,12 @@ use Rattle.rinv_div.specs.declared.divisors.Divisor.{Divisor}
 use Rattle.rinv_div.proofs.Turns.{IsFirst}
 
 module _ {R E : Type 0} (o : RingOps E) (l : RingLaws o) (is_element : E → Bool) (v : ℕ) (cmp : List ℕ → List ℕ → Ordering) (laws : MonoOrderLaws cmp) where
+  -- d is the divisor of the element at the place, the first whose leading monomial divides m
+  pub record IsChosen (hs : List (Polynomial E)) (m : List ℕ) (place : ℕ) (d : Divisor R E) : Type 0 where
+    pub first : IsFirst o l is_element v cmp laws hs m place
+    pub divisor : IsDivisor o is_element v cmp (get_or hs place []) d
+    pub divide : divides d.lead m ≡ true
+
   pub divisors-nil : AreDivisors {R = R} o is_element v cmp [] []
   divisors-nil = record { number = refl; each = λ k d b. absurd (omega arith) }
 
@@ -65,11 +71,16 @@ module _ {R E : Type 0} (o : RingOps E) (l : RingLaws o) (is_element : E → Boo
             let d = some k c in
             true≢false (sym h ∙ by-lead k d m c ∙ none k d c)
 
-    pub first-divides : (m : List ℕ) (k : ℕ) (d : Divisor R E) → k < length ds → IsTrue (divides (get_or ds k d).lead m) → ((j : ℕ) (d : Divisor R E) → j < k → divides (get_or ds j d).lead m ≡ false) → IsFirst o l is_element v cmp laws hs m k
-    first-divides m k d b h first = record {
-      inside = omega (arith, b, are.number);
-      divides = by-lead k d m b ∙ h;
-      first = λ j c. by-lead j d m (omega (arith, b, c)) ∙ first j d c;
+    -- the first divisor whose leading monomial divides m is the one to take
+    pub choose : {m : List ℕ} {k : ℕ} {d : Divisor R E} → k < length ds → ((d : Divisor R E) → IsTrue (divides (get_or ds k d).lead m)) → ((j : ℕ) (d : Divisor R E) → j < k → divides (get_or ds j d).lead m ≡ false) → d ≡ get_or ds k d → IsChosen hs m k d
+    choose {m} {k} {d} b divide first is = record {
+      first = record {
+        inside = omega (arith, b, are.number);
+        divides = by-lead k d m b ∙ divide d;
+        first = λ j c. by-lead j d m (omega (arith, b, c)) ∙ first j d c;
+      };
+      divisor = subst (IsDivisor o is_element v cmp (get_or hs k [])) (sym is) (are.each k d b);
+      divide = subst (λ (r : Divisor R E). divides r.lead m ≡ true) (sym is) (divide d);
     }
 
   -- the next of a list of polynomials

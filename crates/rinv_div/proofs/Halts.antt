@@ -23,14 +23,16 @@ use Rattle.rinv_poly.proofs.Forms.{IsNormalTerm}
 use Rattle.rinv_poly.proofs.Gather.{same-back}
 use Rattle.rinv_div.specs.Arranged.{IsArranged}
 use Rattle.rinv_div.specs.Divisors.{IsDivisor, AreDivisors, IsInverse}
+use Rattle.rinv_div.specs.Rounds.{IsRound}
 use Rattle.rinv_div.specs.Stops.{ProductMeets, Leaves, RunsOut, NextMeets, MeetsDegree, StepsMeet, StopsBy}
 use Rattle.rinv_div.specs.declared.budget.Budget.{Budget}
 use Rattle.rinv_div.specs.declared.divisors.Divisor.{Divisor}
 use Rattle.rinv_div.specs.declared.stop.DivStop.{DivStop}
 use Rattle.rinv_div.specs.declared.stop.DivStop.TheVariants.{Steps, Degree, NoMemory}
 use Rattle.rinv_div.proofs.Arranging.{Below, arranged-terms, later-coefficient, place-coefficient}
+use Rattle.rinv_div.proofs.DividedBy.{IsChosen}
 use Rattle.rinv_div.proofs.Leads.{has-same}
-use Rattle.rinv_div.proofs.Rounds.{IsRound, round-steps, round-has, round-next, round-term}
+use Rattle.rinv_div.proofs.Rounds.{round-steps, round-has, round-next, whole-first}
 use Rattle.rinv_div.proofs.SumAt.{Contains-reverse}
 use Rattle.rinv_div.proofs.Spending.{all-spent}
 use Rattle.rinv_div.proofs.Turns.{IsFirst}
@@ -51,10 +53,6 @@ stop-normal (Degree x y w) N S b = b
 stop-normal NoMemory N S b = tt
 
 module _ {E : Type 0} (o : RingOps E) (l : RingLaws o) (is_element : E → Bool) (v : ℕ) (cmp : List ℕ → List ℕ → Ordering) (laws : MonoOrderLaws cmp) where
-  -- the divisor at a place, as it is read
-  pub divisor-at : {R : Type 0} → (hs : List (Polynomial E)) (ds : List (Divisor R E)) → AreDivisors o is_element v cmp hs ds → (k : ℕ) (d : Divisor R E) → k < length ds → d ≡ get_or ds k d → IsDivisor o is_element v cmp (get_or hs k []) d
-  divisor-at hs ds are k d b is = subst (IsDivisor o is_element v cmp (get_or hs k [])) (sym is) (are.each k d b)
-
   -- the polynomial has the monomials of the divisor's tail
   tail-has : {R : Type 0} → (h : Polynomial E) (d : Divisor R E) → IsDivisor o is_element v cmp h d → (u : Term E) → Contains (reverse d.tail.items) u → has_monomial o h u.0 ≡ true
   tail-has h d n u in_tail =
@@ -69,48 +67,50 @@ module _ {E : Type 0} (o : RingOps E) (l : RingLaws o) (is_element : E → Bool)
         | inr off ↦ ap not off
       ])
 
-  module _ (hs : List (Polynomial E)) (f : Polynomial E) (before now : Budget) (qs : List (Polynomial E)) (rest w left back g : Polynomial E) (t : Term E) (place : ℕ) (taken : w ≡ left ++ t ∷ []) (put_back : back ≡ left ++ t ∷ []) (same : IsSame (poly_ops o) g (rest ++ reverse back)) (h : IsRound o l is_element v cmp laws hs f before now qs rest w) (first : IsFirst o l is_element v cmp laws hs t.0 place) where
-    so-far : Leaves o cmp hs f before now g
-    so-far = record { steps = h.steps; by_steps = round-steps o l is_element v cmp laws hs f before now qs rest w left t taken h back g put_back same; spent = h.spent }
+-- g is the same as all terms
+module _ {E : Type 0} {o : RingOps E} (l : RingLaws o) {is_element : E → Bool} {v : ℕ} {cmp : List ℕ → List ℕ → Ordering} (laws : MonoOrderLaws cmp) {hs : List (Polynomial E)} {f : Polynomial E} {before now : Budget} {qs : List (Polynomial E)} {rest left g : Polynomial E} {t : Term E}
+    (h : IsRound o is_element v cmp hs f before now qs rest (t ∷ left)) (same : IsSame (poly_ops o) g (rest ++ t ∷ left)) where
+  so-far : Leaves o cmp hs f before now g
+  so-far = record { steps = h.steps; by_steps = round-steps l laws h g same; spent = h.spent }
 
-    pub runs-out : now.endless ≡ false → now.steps ≤ now.steps_spent → RunsOut o cmp hs f before now g
-    runs-out endless over = record {
-      so_far = so-far;
-      endless = endless;
-      all_spent = all-spent now h.within endless over;
-      reducible = t.0;
-      has = round-has o l is_element v cmp laws hs f before now qs rest w left t taken h back g put_back same;
-      is_reducible = divisor_reducible o cmp hs t.0 place first.inside first.divides;
-    }
+  pub runs-out : {place : ℕ} → IsFirst o l is_element v cmp laws hs t.0 place → (now.endless ≡ false) × (now.steps ≤ now.steps_spent) → RunsOut o cmp hs f before now g
+  runs-out {place} first spent = record {
+    so_far = so-far;
+    endless = spent.0;
+    all_spent = all-spent now h.within spent.0 spent.1;
+    reducible = t.0;
+    has = round-has l laws h g same;
+    is_reducible = divisor_reducible o cmp hs t.0 place first.inside first.divides;
+  }
 
-    pub meets-degree : {R : Type 0} → (too_high : RingOp → E → E → ℕ → ℕ → Type 0) (d : Divisor R E) → IsDivisor o is_element v cmp (get_or hs place []) d → IsTrue (divides d.lead t.0) → (now.endless ≡ false → now.steps_spent < now.steps) → (c : E) (x y : ℕ) → TermsMeet ((quotient t.0 d.lead, c) ∷ []) d.tail.items x y ⊎ OperationsMeet too_high x y → MeetsDegree o cmp hs f too_high before now x y g
-    meets-degree too_high d n divide room c x y m = record {
-      so_far = so-far;
-      step_left = room;
-      meets = record {
-        cancelled = t.0;
-        place = place;
-        next = round-next o l is_element v cmp laws hs f before now qs rest w left t taken h back g place put_back same first;
-        multiplier = quotient t.0 d.lead;
-        monomial = subst (λ (r : List ℕ). same_monomial (monomial_product (quotient t.0 d.lead) r) t.0 ≡ true) n.lead
-            (subst (λ (r : List ℕ). same_monomial r t.0 ≡ true) (sym (product-quotient t.0 d.lead divide ((round-term o l is_element v cmp laws hs f before now qs rest w left t taken h).vars ∙ sym n.vars))) (same_monomial_refl t.0));
-        meets = elim m [
-          | inl terms ↦ inl (record {
-            left = multiplier-degree terms.left;
-            right = record { monomial = terms.right.term.0; has = tail-has (get_or hs place []) d n terms.right.term (Contains-reverse d.tail.items terms.right.term terms.right.has); degree = terms.right.degree };
-            over = terms.over;
-          })
-          | inr operation ↦ inr operation
-        ];
-      };
-    }
-      where
-        multiplier-degree : IsDegreeOf ((quotient t.0 d.lead, c) ∷ []) x → total_degree (quotient t.0 d.lead) ≡ x
-        multiplier-degree i = go i.term i.has ∙ i.degree
-          where
-            go : (u : Term E) → Contains ((quotient t.0 d.lead, c) ∷ []) u → total_degree (quotient t.0 d.lead) ≡ total_degree u.0
-            go u (zero, b, e) = ap (λ (r : Term E). total_degree r.0) e
-            go u (suc j, b, e) = absurd (omega arith)
+  pub meets-degree : {R : Type 0} → {place : ℕ} → {d : Divisor R E} → (too_high : RingOp → E → E → ℕ → ℕ → Type 0) → IsChosen o l is_element v cmp laws hs t.0 place d → (now.endless ≡ false → now.steps_spent < now.steps) → {c : E} → {x y : ℕ} → TermsMeet ((quotient t.0 d.lead, c) ∷ []) d.tail.items x y ⊎ OperationsMeet too_high x y → MeetsDegree o cmp hs f too_high before now x y g
+  meets-degree {R} {place} {d} too_high chosen room {c} {x} {y} m = record {
+    so_far = so-far;
+    step_left = room;
+    meets = record {
+      cancelled = t.0;
+      place = place;
+      next = round-next l laws h g same place chosen.first;
+      multiplier = quotient t.0 d.lead;
+      monomial = subst (λ (r : List ℕ). same_monomial (monomial_product (quotient t.0 d.lead) r) t.0 ≡ true) chosen.divisor.lead
+          (subst (λ (r : List ℕ). same_monomial r t.0 ≡ true) (sym (product-quotient t.0 d.lead chosen.divide ((whole-first rest left t h.turn.whole).vars ∙ sym chosen.divisor.vars))) (same_monomial_refl t.0));
+      meets = elim m [
+        | inl terms ↦ inl (record {
+          left = multiplier-degree terms.left;
+          right = record { monomial = terms.right.term.0; has = tail-has o l is_element v cmp laws (get_or hs place []) d chosen.divisor terms.right.term (Contains-reverse d.tail.items terms.right.term terms.right.has); degree = terms.right.degree };
+          over = terms.over;
+        })
+        | inr operation ↦ inr operation
+      ];
+    };
+  }
+    where
+      multiplier-degree : IsDegreeOf ((quotient t.0 d.lead, c) ∷ []) x → total_degree (quotient t.0 d.lead) ≡ x
+      multiplier-degree i = go i.term i.has ∙ i.degree
+        where
+          go : (u : Term E) → Contains ((quotient t.0 d.lead, c) ∷ []) u → total_degree (quotient t.0 d.lead) ≡ total_degree u.0
+          go u (zero, b, e) = ap (λ (r : Term E). total_degree r.0) e
+          go u (suc j, b, e) = absurd (omega arith)
 
 -- a stop at a degree, without what was spent
 pub degree-meets : {E : Type 0} (o : RingOps E) (cmp : List ℕ → List ℕ → Ordering) (hs : List (Polynomial E)) (f : Polynomial E) (too_high : RingOp → E → E → ℕ → ℕ → Type 0) (before after : Budget) (x y : ℕ) (g : Polynomial E) → MeetsDegree o cmp hs f too_high before after x y g → StepsMeet o cmp hs f too_high x y

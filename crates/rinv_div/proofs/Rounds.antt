@@ -23,15 +23,19 @@ use Rattle.rinv_poly.proofs.Gather.{same-then, same-back, append-same_right}
 use Rattle.rinv_poly.proofs.Cancelling.{multiple-same}
 use Rattle.rinv_poly.proofs.Dividing.{product-quotient}
 use Rattle.rinv_poly.proofs.Moving.{reverse-last}
-use Rattle.rinv_div.specs.Arranged.{IsArranged}
+use Rattle.rinv_div.specs.Arranged.{IsArranged, AreChanged}
 use Rattle.rinv_div.specs.Budgets.{Spends, IsWithin}
+use Rattle.rinv_div.specs.Rounds.{IsTurn, IsRound, Cancels}
+use Rattle.rinv_div.specs.Divisors.{IsInverse}
 use Rattle.rinv_div.specs.declared.budget.Budget.{Budget}
+use Rattle.rinv_div.specs.declared.divisors.Divisor.{Divisor}
 use Rattle.rinv_div.proofs.OrderFacts as order
 use Rattle.rinv_div.proofs.Arranging.{Below, descend-head, arranged-head, arranged-tail}
+use Rattle.rinv_div.proofs.DividedBy.{IsChosen}
 use Rattle.rinv_div.proofs.Leads.{has-same}
 use Rattle.rinv_div.proofs.Spending.{spends-none, spends-more, within-more}
 use Rattle.rinv_div.proofs.StepSum.{at_place}
-use Rattle.rinv_div.proofs.Turns.{IsFirst, IsTurn, turn-start, turn-settled, turn-end, turn-has, turn-next, turn-cancelled, new-below, arranged-right}
+use Rattle.rinv_div.proofs.Turns.{IsFirst, turn-start, turn-settled, turn-end, turn-has, turn-next, turn-cancelled, new-below, arranged-right}
 
 -- two lists that agree place by place with a relation
 pub zip-places : {X Y : Type 0} (R : X → Y → Type 0) (xs : List X) (ys : List Y) (d : X) (e : Y) → length xs ≡ length ys → ((k : ℕ) → k < length xs → R (get_or xs k d) (get_or ys k e)) → AllZip R xs ys
@@ -71,131 +75,106 @@ module _ {E : Type 0} (o : RingOps E) (l : RingLaws o) (is_element : E → Bool)
   division-same : (steps : List (Step E)) (w g : Polynomial E) → IsSame (poly_ops o) g w → IsDivision o cmp hs f steps w → IsDivision o cmp hs f steps g
   division-same steps w g e d = record { by_steps = steps-same steps w g e d.by_steps; irreducible = λ m has. d.irreducible m (has-same o l is_element v cmp laws g w m e has) }
 
-  -- the lists of the quotients, the terms set aside and those that are left, the greatest last
-  pub record IsRound (before now : Budget) (qs : List (Polynomial E)) (rest w : Polynomial E) : Type 0 where
-    pub steps : List (Step E)
-    pub turn : IsTurn o l is_element v cmp laws hs f steps rest (reverse w)
-    pub number : length qs ≡ length hs
-    pub collected : (k : ℕ) → k < length hs → get_or qs k [] ≡ quotient_at steps k
-    pub spent : Spends (length steps) before now
-    pub within : IsWithin now
-
-  pub round-start : (b : Budget) (qs : List (Polynomial E)) (w : Polynomial E) → IsArranged o is_element v cmp (reverse w) → IsSame (poly_ops o) (reverse w) f → length qs ≡ length hs → ((k : ℕ) → get_or qs k [] ≡ []) → b.steps_spent < 2 ^ 64 → IsWithin b → IsRound b b qs [] w
+  pub round-start : (b : Budget) (qs : List (Polynomial E)) (w : Polynomial E) → IsArranged o is_element v cmp w → IsSame (poly_ops o) w f → length qs ≡ length hs → ((k : ℕ) → get_or qs k [] ≡ []) → b.steps_spent < 2 ^ 64 → IsWithin b → IsRound o is_element v cmp hs f b b qs [] w
   round-start b qs w n same number empty low within = record {
     steps = [];
-    turn = turn-start o l is_element v cmp laws hs f (reverse w) n same;
+    turn = turn-start o l is_element v cmp laws hs f w n same;
     number = number;
     collected = λ k b. empty k;
     spent = spends-none b low;
     within = within;
   }
 
-  module _ (before now : Budget) (qs : List (Polynomial E)) (rest w left : Polynomial E) (t : Term E) (taken : w ≡ left ++ t ∷ []) (h : IsRound before now qs rest w) where
-    front : reverse w ≡ t ∷ reverse left
-    front = reverse-last w left t taken
+-- the first term of what is left
+module _ {E : Type 0} {o : RingOps E} {is_element : E → Bool} {v : ℕ} {cmp : List ℕ → List ℕ → Ordering} (rest left : Polynomial E) (t : Term E) (whole : IsArranged o is_element v cmp (rest ++ t ∷ left)) where
+  front : IsArranged o is_element v cmp (t ∷ left)
+  front = arranged-right o is_element v cmp rest (t ∷ left) whole
 
-    turn : IsTurn o l is_element v cmp laws hs f h.steps rest (t ∷ reverse left)
-    turn = subst (λ (r : Polynomial E). IsTurn o l is_element v cmp laws hs f h.steps rest r) front h.turn
+  pub whole-left : IsArranged o is_element v cmp left
+  whole-left = arranged-tail cmp o is_element v t left front
 
-    pub round-left : IsArranged o is_element v cmp (reverse left)
-    round-left = arranged-tail cmp o is_element v t (reverse left) (arranged-right o l is_element v cmp laws rest (t ∷ reverse left) turn.whole)
+  pub whole-first : IsNormalTerm o is_element v t
+  whole-first = arranged-head cmp o is_element v t left front
 
-    pub round-term : IsNormalTerm o is_element v t
-    round-term = arranged-head cmp o is_element v t (reverse left) (arranged-right o l is_element v cmp laws rest (t ∷ reverse left) turn.whole)
+  -- fewer monomials are reached by what is below the term
+  pub falls : (laws : MonoOrderLaws cmp) (g : Polynomial E) → Below cmp t.0 g → count v 10000 (reaches cmp g) < count v 10000 (reaches cmp (t ∷ left))
+  falls laws g below = reaches-less cmp laws.total v 10000 (t ∷ left) g t.0 whole-first.vars whole-first.low (reached t.0 left) (all-lower g below)
+    where
+      reached : (m : List ℕ) (r : Polynomial E) → IsTrue (reaches cmp ((m, t.1) ∷ r) m)
+      reached m r = rw (order.ge_itself cmp laws m) refl
 
-    -- put back, the term and the others are what the steps left
-    pub round-whole : (back : Polynomial E) → back ≡ left ++ t ∷ [] → IsArranged o is_element v cmp (rest ++ reverse back)
-    round-whole back e = subst (λ (r : Polynomial E). IsArranged o is_element v cmp (rest ++ reverse r)) (taken ∙ sym e) h.turn.whole
+      all-lower : (g : Polynomial E) → Below cmp t.0 g → IsTrue (list_all (λ u. is_lt (cmp u.0 t.0)) g)
+      all-lower [] all = refl
+      all-lower (s ∷ g) all = rw (All-head (λ u. cmp u.0 t.0 ≡ Less) s g all) (all-lower g (All-tail (λ u. cmp u.0 t.0 ≡ Less) s g all))
 
-    pub round-steps : (back g : Polynomial E) → back ≡ left ++ t ∷ [] → IsSame (poly_ops o) g (rest ++ reverse back) → Steps o cmp hs f h.steps g
-    round-steps back g e same = steps-same h.steps (rest ++ reverse w) g (subst (λ (r : Polynomial E). IsSame (poly_ops o) g (rest ++ reverse r)) (e ∙ sym taken) same) h.turn.by_steps
+  pub settled-falls : MonoOrderLaws cmp → count v 10000 (reaches cmp left) < count v 10000 (reaches cmp (t ∷ left))
+  settled-falls laws = falls laws left (descend-head cmp t left front.descending)
 
-    pub round-has : (back g : Polynomial E) → back ≡ left ++ t ∷ [] → IsSame (poly_ops o) g (rest ++ reverse back) → IsTrue (has_monomial o g t.0)
-    round-has back g e same =
-        has-same o l is_element v cmp laws (rest ++ t ∷ reverse left) g t.0 (same-back o l g (rest ++ t ∷ reverse left) (subst (λ (r : Polynomial E). IsSame (poly_ops o) g (rest ++ r)) (ap reverse (e ∙ sym taken) ∙ front) same)) (turn-has o l is_element v cmp laws hs f rest (reverse left) h.steps t turn)
+-- the multiple of the divisor at the place is taken away
+module _ {R E : Type 0} {o : RingOps E} {l : RingLaws o} {is_element : E → Bool} {v : ℕ} {cmp : List ℕ → List ℕ → Ordering} {laws : MonoOrderLaws cmp} {hs : List (Polynomial E)} {left new : Polynomial E} {t s : Term E} {place : ℕ} {d : Divisor R E} (rest : Polynomial E)
+    (whole : IsArranged o is_element v cmp (rest ++ t ∷ left)) (chosen : IsChosen o l is_element v cmp laws hs t.0 place d)
+    (c : Cancels o is_element v d t left new s) (arranged : IsArranged o is_element v cmp new) where
+  product-is : monomial_product s.0 (leading_monomial o cmp (get_or hs place [])) ≡ t.0
+  product-is = ap (λ (x : List ℕ). monomial_product s.0 x) (sym chosen.divisor.lead) ∙ ap (λ (x : List ℕ). monomial_product x d.lead) c.monomial ∙ product-quotient t.0 d.lead chosen.divide ((whole-first rest left t whole).vars ∙ sym chosen.divisor.vars)
 
-    pub round-next : (back g : Polynomial E) (place : ℕ) → back ≡ left ++ t ∷ [] → IsSame (poly_ops o) g (rest ++ reverse back) → IsFirst o l is_element v cmp laws hs t.0 place → IsNext o cmp hs g t.0 place
-    round-next back g place e same first =
-        next-same (rest ++ t ∷ reverse left) g t.0 place (subst (λ (r : Polynomial E). IsSame (poly_ops o) g (rest ++ r)) (ap reverse (e ∙ sym taken) ∙ front) same) (turn-next o l is_element v cmp laws hs f rest (reverse left) h.steps t place turn first)
+  of_lead : IsSame (poly_ops o) (get_or hs place []) ((leading_monomial o cmp (get_or hs place []), leading_coefficient o cmp (get_or hs place [])) ∷ (reverse d.tail.items))
+  of_lead = subst (λ (x : List ℕ). IsSame (poly_ops o) (get_or hs place []) ((x, leading_coefficient o cmp (get_or hs place [])) ∷ (reverse d.tail.items))) chosen.divisor.lead chosen.divisor.whole
 
-    pub round-settled : (more : Polynomial E) → more ≡ rest ++ t ∷ [] → is_reducible o cmp hs t.0 ≡ false → IsRound before now qs more left
+  under : Below cmp (leading_monomial o cmp (get_or hs place [])) (reverse d.tail.items)
+  under = subst (λ (x : List ℕ). Below cmp x (reverse d.tail.items)) chosen.divisor.lead chosen.divisor.below
+
+  pub cancelled-falls : count v 10000 (reaches cmp new) < count v 10000 (reaches cmp (t ∷ left))
+  cancelled-falls = falls rest left t whole laws new (new-below o l is_element v cmp laws hs rest left new (reverse d.tail.items) t place s.0 s.1 whole product-is under arranged c.value)
+
+module _ {E : Type 0} {o : RingOps E} (l : RingLaws o) {is_element : E → Bool} {v : ℕ} {cmp : List ℕ → List ℕ → Ordering} (laws : MonoOrderLaws cmp) {hs : List (Polynomial E)} {f : Polynomial E} {before now : Budget} {qs : List (Polynomial E)} {rest : Polynomial E} where
+  module _ {left : Polynomial E} {t : Term E} (h : IsRound o is_element v cmp hs f before now qs rest (t ∷ left)) where
+    -- g is the same as all terms
+    module _ (g : Polynomial E) (same : IsSame (poly_ops o) g (rest ++ t ∷ left)) where
+      pub round-steps : Steps o cmp hs f h.steps g
+      round-steps = steps-same o l is_element v cmp laws hs f h.steps (rest ++ t ∷ left) g same h.turn.by_steps
+
+      pub round-has : IsTrue (has_monomial o g t.0)
+      round-has = has-same o l is_element v cmp laws (rest ++ t ∷ left) g t.0 (same-back o l g (rest ++ t ∷ left) same) (turn-has o l is_element v cmp laws hs f rest left h.steps t h.turn)
+
+      pub round-next : (place : ℕ) → IsFirst o l is_element v cmp laws hs t.0 place → IsNext o cmp hs g t.0 place
+      round-next place first = next-same o l is_element v cmp laws hs f (rest ++ t ∷ left) g t.0 place same (turn-next o l is_element v cmp laws hs f rest left h.steps t place h.turn first)
+
+    pub round-settled : (more : Polynomial E) → more ≡ rest ++ t ∷ [] → is_reducible o cmp hs t.0 ≡ false → IsRound o is_element v cmp hs f before now qs more left
     round-settled more e off = rw e (record {
       steps = h.steps;
-      turn = turn-settled o l is_element v cmp laws hs f rest (reverse left) h.steps t turn off;
+      turn = turn-settled o l is_element v cmp laws hs f rest left h.steps t h.turn off;
       number = h.number;
       collected = h.collected;
       spent = h.spent;
       within = h.within;
     })
 
-    -- fewer monomials are reached by what is below the term
-    pub falls : (g : Polynomial E) → Below cmp t.0 g → count v 10000 (reaches cmp g) < count v 10000 (reaches cmp (reverse w))
-    falls g below = rw front (reaches-less cmp laws.total v 10000 (t ∷ reverse left) g t.0 round-term.vars round-term.low (reached t.0 (reverse left)) (all-lower g below))
-      where
-        reached : (m : List ℕ) (r : Polynomial E) → IsTrue (reaches cmp ((m, t.1) ∷ r) m)
-        reached m r = rw (order.ge_itself cmp laws m) refl
+  -- the multiple of the divisor at the place is taken away
+  pub round-cancelled : {R : Type 0} → {left new : Polynomial E} → {t s : Term E} → {place : ℕ} → {d : Divisor R E} → IsRound o is_element v cmp hs f before now qs rest (t ∷ left) → IsChosen o l is_element v cmp laws hs t.0 place d → Cancels o is_element v d t left new s → IsArranged o is_element v cmp new → (more : List (Polynomial E)) (after : Budget) → length more ≡ length qs → get_or more place [] ≡ get_or qs place [] ++ s ∷ [] → ((k : ℕ) → (k ≡ place → ⊥) → get_or more k [] ≡ get_or qs k []) → (now.endless ≡ false → now.steps_spent < now.steps) → Spends 1 now after → IsRound o is_element v cmp hs f before after more rest new
+  round-cancelled {R} {left} {new} {t} {s} {place} {d} h chosen c arranged more after long here others room one = record {
+    steps = h.steps ++ record { place = place; multiplier = s } ∷ [];
+    turn = turn-cancelled o l is_element v cmp laws hs f rest left new (reverse d.tail.items) h.steps t place s.0 s.1 h.turn chosen.first (product-is rest h.turn.whole chosen c arranged) (c.coefficient (leading_coefficient o cmp (get_or hs place [])) chosen.divisor.inverse) c.element c.vars c.low (of_lead rest h.turn.whole chosen c arranged) (under rest h.turn.whole chosen c arranged) arranged c.value;
+    number = long ∙ h.number;
+    collected = λ k b. at_place h.steps (record { place = place; multiplier = s }) k (λ r. get_or more k [] ≡ r)
+        (λ e. subst (λ (j : ℕ). get_or more j [] ≡ quotient_at h.steps j ++ s ∷ []) e (here ∙ ap (λ (r : Polynomial E). r ++ s ∷ []) (h.collected place chosen.first.inside)))
+        (λ off. others k (λ e. off (sym e)) ∙ h.collected k b);
+    spent = spends-more h.steps (record { place = place; multiplier = s }) before now after h.spent one;
+    within = within-more now after h.within room one;
+  }
 
-        all-lower : (g : Polynomial E) → Below cmp t.0 g → IsTrue (list_all (λ u. is_lt (cmp u.0 t.0)) g)
-        all-lower [] all = refl
-        all-lower (s ∷ g) all = rw (All-head (λ u. cmp u.0 t.0 ≡ Less) s g all) (all-lower g (All-tail (λ u. cmp u.0 t.0 ≡ Less) s g all))
-
-    pub settled-falls : count v 10000 (reaches cmp (reverse left)) < count v 10000 (reaches cmp (reverse w))
-    settled-falls = falls (reverse left) (descend-head cmp t (reverse left) (arranged-right o l is_element v cmp laws rest (t ∷ reverse left) turn.whole).descending)
-
-    -- a multiple of the element at the place is taken away
-    module _ (place : ℕ) (m : List ℕ) (q opposite : E) (tail new : Polynomial E) (lead : List ℕ)
-        (first : IsFirst o l is_element v cmp laws hs t.0 place)
-        (leads : lead ≡ leading_monomial o cmp (get_or hs place []))
-        (is : m ≡ quotient t.0 lead) (vars : length m ≡ v) (low : total_degree m ≤ max_degree) (lead_vars : length lead ≡ v) (divide : divides lead t.0 ≡ true)
-        (element : IsTrue (is_element q))
-        (cancels : IsSame o (o.mul q (leading_coefficient o cmp (get_or hs place []))) t.1)
-        (divisor : IsSame (poly_ops o) (get_or hs place []) ((lead, leading_coefficient o cmp (get_or hs place [])) ∷ reverse tail))
-        (below : Below cmp lead (reverse tail))
-        (negative : IsSame o opposite (o.neg q))
-        (arranged : IsArranged o is_element v cmp (reverse new))
-        (value : IsSame (poly_ops o) (reverse new) (reverse left ++ term_product o (m, opposite) (reverse tail))) where
-      product-is : monomial_product m (leading_monomial o cmp (get_or hs place [])) ≡ t.0
-      product-is = ap (λ (x : List ℕ). monomial_product m x) (sym leads) ∙ ap (λ (x : List ℕ). monomial_product x lead) is ∙ product-quotient t.0 lead divide (round-term.vars ∙ sym lead_vars)
-
-      same : IsSame (poly_ops o) (reverse new) (reverse left ++ term_product o (m, o.neg q) (reverse tail))
-      same = same-then o l (reverse new) (reverse left ++ term_product o (m, opposite) (reverse tail)) (reverse left ++ term_product o (m, o.neg q) (reverse tail)) value
-          (append-same_right o l (reverse left) (term_product o (m, opposite) (reverse tail)) (term_product o (m, o.neg q) (reverse tail)) (multiple-same o l m opposite (o.neg q) (reverse tail) negative))
-
-      of_lead : IsSame (poly_ops o) (get_or hs place []) ((leading_monomial o cmp (get_or hs place []), leading_coefficient o cmp (get_or hs place [])) ∷ reverse tail)
-      of_lead = subst (λ (x : List ℕ). IsSame (poly_ops o) (get_or hs place []) ((x, leading_coefficient o cmp (get_or hs place [])) ∷ reverse tail)) leads divisor
-
-      under : Below cmp (leading_monomial o cmp (get_or hs place [])) (reverse tail)
-      under = subst (λ (x : List ℕ). Below cmp x (reverse tail)) leads below
-
-      pub cancelled-falls : count v 10000 (reaches cmp (reverse new)) < count v 10000 (reaches cmp (reverse w))
-      cancelled-falls = falls (reverse new) (new-below o l is_element v cmp laws hs f rest (reverse left) (reverse new) (reverse tail) h.steps t place m q turn first product-is cancels element vars low of_lead under arranged same)
-
-      pub round-cancelled : (more : List (Polynomial E)) (after : Budget) → length more ≡ length qs → get_or more place [] ≡ get_or qs place [] ++ (m, q) ∷ [] → ((k : ℕ) → (k ≡ place → ⊥) → get_or more k [] ≡ get_or qs k []) → (now.endless ≡ false → now.steps_spent < now.steps) → Spends 1 now after → IsRound before after more rest new
-      round-cancelled more after long here others room one = record {
-        steps = h.steps ++ record { place = place; multiplier = (m, q) } ∷ [];
-        turn = turn-cancelled o l is_element v cmp laws hs f rest (reverse left) (reverse new) (reverse tail) h.steps t place m q turn first product-is cancels element vars low of_lead under arranged same;
-        number = long ∙ h.number;
-        collected = λ k b. at_place h.steps (record { place = place; multiplier = (m, q) }) k (λ r. get_or more k [] ≡ r)
-            (λ e. subst (λ (j : ℕ). get_or more j [] ≡ quotient_at h.steps j ++ (m, q) ∷ []) e (here ∙ ap (λ (r : Polynomial E). r ++ (m, q) ∷ []) (h.collected place first.inside)))
-            (λ off. others k (λ e. off (sym e)) ∙ h.collected k b);
-        spent = spends-more h.steps (record { place = place; multiplier = (m, q) }) before now after h.spent one;
-        within = within-more now after h.within room one;
-      }
-
+module _ {E : Type 0} {o : RingOps E} (l : RingLaws o) {is_element : E → Bool} {v : ℕ} {cmp : List ℕ → List ℕ → Ordering} (laws : MonoOrderLaws cmp) {hs : List (Polynomial E)} {f : Polynomial E} {before now : Budget} {qs : List (Polynomial E)} {rest : Polynomial E} (h : IsRound o is_element v cmp hs f before now qs rest []) where
   -- where nothing is left, the division is done
-  pub round-end : (before now : Budget) (qs : List (Polynomial E)) (rest w g : Polynomial E) → length w ≡ 0 → IsSame (poly_ops o) g (rest ++ reverse w) → (h : IsRound before now qs rest w) → IsDivision o cmp hs f h.steps g
-  round-end before now qs rest (t ∷ w) g none same h = absurd (omega (arith, none))
-  round-end before now qs rest [] g none same h =
-      division-same h.steps rest g (subst (λ (r : Polynomial E). IsSame (poly_ops o) g r) (append-nil rest) same) (turn-end o l is_element v cmp laws hs f rest h.steps h.turn)
+  pub round-end : (g : Polynomial E) → IsSame (poly_ops o) g rest → IsDivision o cmp hs f h.steps g
+  round-end g same = division-same o l is_element v cmp laws hs f h.steps rest g same (turn-end o l is_element v cmp laws hs f rest h.steps h.turn)
 
-  pub round-quotients : (before now : Budget) (qs : List (Polynomial E)) (rest w : Polynomial E) → IsRound before now qs rest w → All (IsArranged o is_element v cmp) qs
-  round-quotients before now qs rest w h k d b =
+  pub round-quotients : All (IsArranged o is_element v cmp) qs
+  round-quotients k d b =
       let inside : k < length hs = omega (arith, b, h.number) in
       subst (IsArranged o is_element v cmp) (sym (get_or_default qs k d [] b ∙ h.collected k inside)) (h.turn.quotients k)
 
   -- the quotients are those of the steps
-  pub round-same : (before now : Budget) (qs : List (Polynomial E)) (rest w : Polynomial E) → (h : IsRound before now qs rest w) → (gs : List (Polynomial E)) → AllZip (IsSame (poly_ops o)) gs qs → AreSame o gs (quotients (length hs) h.steps)
-  round-same before now qs rest w h gs zip =
+  pub round-same : (gs : List (Polynomial E)) → AllZip (IsSame (poly_ops o)) gs qs → AreSame o gs (quotients (length hs) h.steps)
+  round-same gs zip =
       let long : length qs ≡ length gs = AllZip-long (IsSame (poly_ops o)) gs qs zip in
       zip-places (IsSame (poly_ops o)) gs (quotients (length hs) h.steps) [] (quotient_at h.steps 0) (sym long ∙ h.number ∙ sym (length-quotients (length hs) h.steps))
       (λ k b. subst (λ (r : Polynomial E). IsSame (poly_ops o) (get_or gs k []) r) (h.collected k (omega (arith, b, long, h.number)) ∙ sym (quotients-at (length hs) h.steps k (omega (arith, b, long, h.number)))) (AllZip-get_or (IsSame (poly_ops o)) gs qs k [] [] zip b))

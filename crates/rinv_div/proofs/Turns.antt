@@ -25,9 +25,15 @@ use Rattle.rinv_poly.proofs.Gather.{same-then, same-refl, same-equal, same-back,
 use Rattle.rinv_poly.proofs.Built.{product-one}
 use Rattle.rinv_mono.proofs.Pairwise.{length-product}
 use Rattle.rinv_div.specs.Arranged.{IsArranged}
+use Rattle.rinv_div.specs.Rounds.{IsTurn}
 use Rattle.rinv_div.proofs.OrderFacts as order
 use Rattle.rinv_div.proofs.Arranging.{Below, Above, descend-head, descend-left, descend-right, descend-above, below-first, below-absent, below-coefficient, first-coefficient, arranged-nil, arranged-head, arranged-tail, arranged-push, arranged-append, arranged-terms}
 use Rattle.rinv_div.proofs.StepSum.{taken-step, at_place}
+
+module _ {E : Type 0} (o : RingOps E) (is_element : E → Bool) (v : ℕ) (cmp : List ℕ → List ℕ → Ordering) where
+  pub arranged-right : (rest left : Polynomial E) → IsArranged o is_element v cmp (rest ++ left) → IsArranged o is_element v cmp left
+  arranged-right [] left n = n
+  arranged-right (s ∷ rest) left n = arranged-right rest left (arranged-tail cmp o is_element v s (rest ++ left) n)
 
 module _ {E : Type 0} (o : RingOps E) (l : RingLaws o) (is_element : E → Bool) (v : ℕ) (cmp : List ℕ → List ℕ → Ordering) (laws : MonoOrderLaws cmp) where
   -- an arranged polynomial that is the same as terms below m is below m
@@ -53,10 +59,6 @@ module _ {E : Type 0} (o : RingOps E) (l : RingLaws o) (is_element : E → Bool)
   under-all : (rest left : Polynomial E) (t : Term E) → IsArranged o is_element v cmp (rest ++ t ∷ left) → All (λ s. cmp t.0 s.0 ≡ Less) rest
   under-all rest left t n = All-weaker (λ s. Below cmp s.0 (t ∷ left)) (λ s. cmp t.0 s.0 ≡ Less) (λ s b. All-head (λ u. cmp u.0 s.0 ≡ Less) t left b) rest (descend-above cmp rest (t ∷ left) n.descending)
 
-  pub arranged-right : (rest left : Polynomial E) → IsArranged o is_element v cmp (rest ++ left) → IsArranged o is_element v cmp left
-  arranged-right [] left n = n
-  arranged-right (s ∷ rest) left n = arranged-right rest left (arranged-tail cmp o is_element v s (rest ++ left) n)
-
   arranged-left : (rest left : Polynomial E) → IsArranged o is_element v cmp (rest ++ left) → IsArranged o is_element v cmp rest
   arranged-left [] left n = arranged-nil cmp o is_element v
   arranged-left (s ∷ rest) left n = record {
@@ -79,15 +81,7 @@ module _ {E : Type 0} (o : RingOps E) (l : RingLaws o) (is_element : E → Bool)
       pub divides : IsTrue (lead_divides o cmp (get_or hs place []) m)
       pub first : (j : ℕ) → j < place → IsFalse (lead_divides o cmp (get_or hs j []) m)
 
-    -- what is set aside, and what is left; the monomials that were cancelled are above what is left
-    pub record IsTurn (f : Polynomial E) (steps : List (Step E)) (rest left : Polynomial E) : Type 0 where
-      pub whole : IsArranged o is_element v cmp (rest ++ left)
-      pub settled : All (λ t. is_reducible o cmp hs t.0 ≡ false) rest
-      pub by_steps : Steps o cmp hs f steps (rest ++ left)
-      pub quotients : (k : ℕ) → IsArranged o is_element v cmp (quotient_at steps k)
-      pub above : (k : ℕ) → All (λ s. Below cmp (monomial_product s.0 (leading_monomial o cmp (get_or hs k []))) left) (quotient_at steps k)
-
-    pub turn-start : (f w : Polynomial E) → IsArranged o is_element v cmp w → IsSame (poly_ops o) w f → IsTurn f [] [] w
+    pub turn-start : (f w : Polynomial E) → IsArranged o is_element v cmp w → IsSame (poly_ops o) w f → IsTurn o is_element v cmp hs f [] [] w
     turn-start f w n e = record {
       whole = n;
       settled = All-nil (λ t. is_reducible o cmp hs t.0 ≡ false);
@@ -97,7 +91,7 @@ module _ {E : Type 0} (o : RingOps E) (l : RingLaws o) (is_element : E → Bool)
     }
 
     -- a term that cannot be cancelled is set aside
-    pub turn-settled : (f rest left : Polynomial E) (steps : List (Step E)) (t : Term E) → IsTurn f steps rest (t ∷ left) → is_reducible o cmp hs t.0 ≡ false → IsTurn f steps (rest ++ t ∷ []) left
+    pub turn-settled : (f rest left : Polynomial E) (steps : List (Step E)) (t : Term E) → IsTurn o is_element v cmp hs f steps rest (t ∷ left) → is_reducible o cmp hs t.0 ≡ false → IsTurn o is_element v cmp hs f steps (rest ++ t ∷ []) left
     turn-settled f rest left steps t h off = record {
       whole = subst (IsArranged o is_element v cmp) (sym (append_assoc rest (t ∷ []) left)) h.whole;
       settled = All-push (λ t. is_reducible o cmp hs t.0 ≡ false) rest t h.settled off;
@@ -119,7 +113,7 @@ module _ {E : Type 0} (o : RingOps E) (l : RingLaws o) (is_element : E → Bool)
     has-absent f e absent has = true≢false (sym has ∙ rw (coefficient-absent o e f absent) (ap not (l.same_refl o.zero)))
 
     -- where nothing is left, the division is done
-    pub turn-end : (f rest : Polynomial E) (steps : List (Step E)) → IsTurn f steps rest [] → IsDivision o cmp hs f steps rest
+    pub turn-end : (f rest : Polynomial E) (steps : List (Step E)) → IsTurn o is_element v cmp hs f steps rest [] → IsDivision o cmp hs f steps rest
     turn-end f rest steps h = record {
       by_steps = subst (λ (r : Polynomial E). Steps o cmp hs f steps r) (append-nil rest) h.by_steps;
       irreducible = λ m has. elim (cases_Bool (is_reducible o cmp hs m)) [
@@ -128,16 +122,16 @@ module _ {E : Type 0} (o : RingOps E) (l : RingLaws o) (is_element : E → Bool)
       ];
     }
 
-    pub turn-has : (f rest left : Polynomial E) (steps : List (Step E)) (t : Term E) → IsTurn f steps rest (t ∷ left) → IsTrue (has_monomial o (rest ++ t ∷ left) t.0)
+    pub turn-has : (f rest left : Polynomial E) (steps : List (Step E)) (t : Term E) → IsTurn o is_element v cmp hs f steps rest (t ∷ left) → IsTrue (has_monomial o (rest ++ t ∷ left) t.0)
     turn-has f rest left steps t h =
-        let head = arranged-head cmp o is_element v t left (arranged-right rest (t ∷ left) h.whole) in
+        let head = arranged-head cmp o is_element v t left (arranged-right o is_element v cmp rest (t ∷ left) h.whole) in
         elim (cases_Bool (o.same (coefficient o (rest ++ t ∷ left) t.0) o.zero)) [
           | inl zero ↦ absurd (true≢false (sym (facts.then o l (facts.back o l (here-coefficient rest left t h.whole)) zero) ∙ head.nonzero))
           | inr off ↦ ap not off
         ]
 
     -- the greatest monomial that can be cancelled
-    pub turn-next : (f rest left : Polynomial E) (steps : List (Step E)) (t : Term E) (place : ℕ) → IsTurn f steps rest (t ∷ left) → IsFirst t.0 place → IsNext o cmp hs (rest ++ t ∷ left) t.0 place
+    pub turn-next : (f rest left : Polynomial E) (steps : List (Step E)) (t : Term E) (place : ℕ) → IsTurn o is_element v cmp hs f steps rest (t ∷ left) → IsFirst t.0 place → IsNext o cmp hs (rest ++ t ∷ left) t.0 place
     turn-next f rest left steps t place h first = record {
       has = turn-has f rest left steps t h;
       greatest = λ e has r. elim (searched o l e (t ∷ left)) [
@@ -157,9 +151,26 @@ module _ {E : Type 0} (o : RingOps E) (l : RingLaws o) (is_element : E → Bool)
         absent-append e [] g a b = b
         absent-append e (s ∷ f) g a b = (a.0, absent-append e f g a.1 b)
 
+    module _ (rest left new tail : Polynomial E) (t : Term E) (place : ℕ) (m : List ℕ) (q : E)
+        (whole : IsArranged o is_element v cmp (rest ++ t ∷ left))
+        (is : monomial_product m (leading_monomial o cmp (get_or hs place [])) ≡ t.0)
+        (below : Below cmp (leading_monomial o cmp (get_or hs place [])) tail)
+        (arranged : IsArranged o is_element v cmp new)
+        (same : IsSame (poly_ops o) new (left ++ term_product o (m, o.neg q) tail)) where
+      left-below : Below cmp t.0 left
+      left-below = descend-head cmp t left (descend-right cmp rest (t ∷ left) whole.descending)
+
+      -- what a step leaves is below the term that it cancels
+      pub new-below : Below cmp t.0 new
+      new-below = below-same (left ++ term_product o (m, o.neg q) tail) new t.0 arranged
+          (All-append (λ u. cmp u.0 t.0 ≡ Less) left (term_product o (m, o.neg q) tail) left-below
+          (All-map (λ u. cmp u.0 t.0 ≡ Less) (λ (s : Term E). (monomial_product m s.0, o.mul (o.neg q) s.1)) tail
+          (λ k d b. subst (λ (x : List ℕ). cmp (monomial_product m (get_or tail k d).0) x ≡ Less) is (order.kept_left cmp laws m (get_or tail k d).0 (leading_monomial o cmp (get_or hs place [])) ∙ below k d b))))
+          same
+
     -- the greatest term that is left is cancelled by a multiple of the element u + tail
     module _ (f rest left new tail : Polynomial E) (steps : List (Step E)) (t : Term E) (place : ℕ) (m : List ℕ) (q : E)
-        (h : IsTurn f steps rest (t ∷ left)) (first : IsFirst t.0 place)
+        (h : IsTurn o is_element v cmp hs f steps rest (t ∷ left)) (first : IsFirst t.0 place)
         (is : monomial_product m (leading_monomial o cmp (get_or hs place [])) ≡ t.0)
         (cancels : IsSame o (o.mul q (leading_coefficient o cmp (get_or hs place []))) t.1)
         (element : IsTrue (is_element q)) (vars : length m ≡ v) (low : total_degree m ≤ max_degree)
@@ -170,20 +181,12 @@ module _ {E : Type 0} (o : RingOps E) (l : RingLaws o) (is_element : E → Bool)
       abbrev lead : List ℕ
       lead = leading_monomial o cmp (get_or hs place [])
 
-      left-below : Below cmp t.0 left
-      left-below = descend-head cmp t left (descend-right cmp rest (t ∷ left) h.whole.descending)
-
-      -- what is left is below the term
-      pub new-below : Below cmp t.0 new
-      new-below = below-same (left ++ term_product o (m, o.neg q) tail) new t.0 arranged
-          (All-append (λ u. cmp u.0 t.0 ≡ Less) left (term_product o (m, o.neg q) tail) left-below
-          (All-map (λ u. cmp u.0 t.0 ≡ Less) (λ (s : Term E). (monomial_product m s.0, o.mul (o.neg q) s.1)) tail
-          (λ k d b. subst (λ (x : List ℕ). cmp (monomial_product m (get_or tail k d).0) x ≡ Less) is (order.kept_left cmp laws m (get_or tail k d).0 lead ∙ below k d b))))
-          same
+      under-term : Below cmp t.0 new
+      under-term = new-below rest left new tail t place m q h.whole is below arranged same
 
       new-whole : IsArranged o is_element v cmp (rest ++ new)
       new-whole = arranged-append cmp o is_element v rest new (arranged-left rest (t ∷ left) h.whole) arranged
-          (All-weaker (λ s. cmp t.0 s.0 ≡ Less) (λ s. Below cmp s.0 new) (λ s b. All-weaker (λ u. cmp u.0 t.0 ≡ Less) (λ u. cmp u.0 s.0 ≡ Less) (λ u c. laws.total.trans u.0 t.0 s.0 c b) new new-below) rest (under-all rest left t h.whole))
+          (All-weaker (λ s. cmp t.0 s.0 ≡ Less) (λ s. Below cmp s.0 new) (λ s b. All-weaker (λ u. cmp u.0 t.0 ≡ Less) (λ u. cmp u.0 s.0 ≡ Less) (λ u c. laws.total.trans u.0 t.0 s.0 c b) new under-term) rest (under-all rest left t h.whole))
 
       abbrev step : Step E
       step = record { place = place; multiplier = (m, q) }
@@ -210,7 +213,7 @@ module _ {E : Type 0} (o : RingOps E) (l : RingLaws o) (is_element : E → Bool)
       nonzero = elim (cases_Bool (o.same q o.zero)) [
         | inl zero ↦
             let none : IsSame o t.1 o.zero = facts.then o l (facts.back o l cancels) (facts.then o l (facts.mul2 o l zero (l.same_refl (leading_coefficient o cmp (get_or hs place [])))) (facts.zero_mul o l (leading_coefficient o cmp (get_or hs place [])))) in
-            absurd (true≢false (sym none ∙ (arranged-head cmp o is_element v t left (arranged-right rest (t ∷ left) h.whole)).nonzero))
+            absurd (true≢false (sym none ∙ (arranged-head cmp o is_element v t left (arranged-right o is_element v cmp rest (t ∷ left) h.whole)).nonzero))
         | inr off ↦ off
       ]
 
@@ -220,15 +223,15 @@ module _ {E : Type 0} (o : RingOps E) (l : RingLaws o) (is_element : E → Bool)
           (record { coefficient = element; nonzero = nonzero; vars = vars; low = low })
 
       still-above : (k : ℕ) → All (λ s. Below cmp (monomial_product s.0 (leading_monomial o cmp (get_or hs k []))) new) (quotient_at steps k)
-      still-above k = All-weaker (λ s. cmp t.0 (monomial_product s.0 (leading_monomial o cmp (get_or hs k []))) ≡ Less) (λ s. Below cmp (monomial_product s.0 (leading_monomial o cmp (get_or hs k []))) new) (λ s b. All-weaker (λ u. cmp u.0 t.0 ≡ Less) (λ u. cmp u.0 (monomial_product s.0 (leading_monomial o cmp (get_or hs k []))) ≡ Less) (λ u c. laws.total.trans u.0 t.0 (monomial_product s.0 (leading_monomial o cmp (get_or hs k []))) c b) new new-below) (quotient_at steps k) (under-quotient k)
+      still-above k = All-weaker (λ s. cmp t.0 (monomial_product s.0 (leading_monomial o cmp (get_or hs k []))) ≡ Less) (λ s. Below cmp (monomial_product s.0 (leading_monomial o cmp (get_or hs k []))) new) (λ s b. All-weaker (λ u. cmp u.0 t.0 ≡ Less) (λ u. cmp u.0 (monomial_product s.0 (leading_monomial o cmp (get_or hs k []))) ≡ Less) (λ u c. laws.total.trans u.0 t.0 (monomial_product s.0 (leading_monomial o cmp (get_or hs k []))) c b) new under-term) (quotient_at steps k) (under-quotient k)
 
-      pub turn-cancelled : IsTurn f (steps ++ record { place = place; multiplier = (m, q) } ∷ []) rest new
+      pub turn-cancelled : IsTurn o is_element v cmp hs f (steps ++ record { place = place; multiplier = (m, q) } ∷ []) rest new
       turn-cancelled = record {
         whole = new-whole;
         settled = h.settled;
         by_steps = Steps.next steps (rest ++ t ∷ left) step (rest ++ new) h.by_steps is_step;
         quotients = λ k. at_place steps step k (λ r. IsArranged o is_element v cmp r) (λ e. subst (λ (j : ℕ). IsArranged o is_element v cmp (quotient_at steps j ++ (m, q) ∷ [])) e more-quotient) (λ off. h.quotients k);
         above = λ k. at_place steps step k (λ r. All (λ s. Below cmp (monomial_product s.0 (leading_monomial o cmp (get_or hs k []))) new) r)
-            (λ e. All-push (λ s. Below cmp (monomial_product s.0 (leading_monomial o cmp (get_or hs k []))) new) (quotient_at steps k) (m, q) (still-above k) (subst (λ (j : ℕ). Below cmp (monomial_product m (leading_monomial o cmp (get_or hs j []))) new) e (subst (λ (x : List ℕ). Below cmp x new) (sym is) new-below)))
+            (λ e. All-push (λ s. Below cmp (monomial_product s.0 (leading_monomial o cmp (get_or hs k []))) new) (quotient_at steps k) (m, q) (still-above k) (subst (λ (j : ℕ). Below cmp (monomial_product m (leading_monomial o cmp (get_or hs j []))) new) e (subst (λ (x : List ℕ). Below cmp x new) (sym is) under-term)))
             (λ off. still-above k);
       }

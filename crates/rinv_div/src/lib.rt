@@ -9,6 +9,7 @@ mod replacing;
 mod sorting;
 mod step;
 mod stop;
+mod turning;
 #[cfg(test)]
 mod tests;
 
