@@ -26,7 +26,7 @@ use Rattle.rinv_poly.proofs.Moving.{reverse-last}
 use Rattle.rinv_div.specs.Arranged.{IsArranged, AreChanged}
 use Rattle.rinv_div.specs.Budgets.{Spends, IsWithin}
 use Rattle.rinv_div.specs.Rounds.{IsTurn, IsRound, Cancels}
-use Rattle.rinv_div.specs.Divisors.{IsInverse}
+use Rattle.rinv_div.specs.Divisors.{IsInverse, IsPlanned}
 use Rattle.rinv_div.specs.declared.budget.Budget.{Budget}
 use Rattle.rinv_div.specs.declared.divisors.Divisor.{Divisor}
 use Rattle.rinv_div.proofs.OrderFacts as order
@@ -178,6 +178,20 @@ module _ {E : Type 0} {o : RingOps E} (l : RingLaws o) {is_element : E → Bool}
       let long : length qs ≡ length gs = AllZip-long (IsSame (poly_ops o)) gs qs zip in
       zip-places (IsSame (poly_ops o)) gs (quotients (length hs) h.steps) [] (quotient_at h.steps 0) (sym long ∙ h.number ∙ sym (length-quotients (length hs) h.steps))
       (λ k b. subst (λ (r : Polynomial E). IsSame (poly_ops o) (get_or gs k []) r) (h.collected k (omega (arith, b, long, h.number)) ∙ sym (quotients-at (length hs) h.steps k (omega (arith, b, long, h.number)))) (AllZip-get_or (IsSame (poly_ops o)) gs qs k [] [] zip b))
+
+-- what was planned and put in its place takes the multiple away
+pub planned-cancels : {R E : Type 0} {o : RingOps E} (l : RingLaws o) {is_element : E → Bool} {v : ℕ} (d : Divisor R E) (t : Term E) (m : List ℕ) (q : E) (left us new : Polynomial E) → m ≡ quotient t.0 d.lead → length m ≡ v → total_degree m ≤ max_degree → IsTrue (is_element q) → ((c : E) → IsInverse o is_element c d.inverse → IsSame o (o.mul q c) t.1) → IsPlanned o left (reverse d.tail.items) m q us → ((added : Polynomial E) → AreChanged o left added us → IsSame (poly_ops o) new (left ++ added)) → Cancels o is_element v d t left new (m, q)
+planned-cancels {o = o} l d t m q left us new is vars low element cancels p value = record {
+  monomial = is;
+  vars = vars;
+  low = low;
+  element = element;
+  coefficient = cancels;
+  value =
+      let tail = reverse d.tail.items in
+      same-then o l new (left ++ term_product o (m, p.opposite) tail) (left ++ term_product o (m, o.neg q) tail) (value (term_product o (m, p.opposite) tail) p.changed)
+      (append-same_right o l left (term_product o (m, p.opposite) tail) (term_product o (m, o.neg q) tail) (multiple-same o l m p.opposite (o.neg q) tail p.is_opposite));
+}
 
 -- lists of no items, seen as lists
 pub all-empty : {X Y : Type 0} (view : X → List Y) (xs : List X) → All (λ x. view x ≡ []) xs → (k : ℕ) → get_or (map view xs) k [] ≡ []
