@@ -42,10 +42,10 @@ inverse-element o is_element c None h = tt
 inverse-element o is_element c (Some x) h = h.0
 
 -- the stop for a fault is one at a degree
-pub stop-meets : {R E : Type 0} (s : DivStop R E) (fault : RingFault) (N : Polynomial E → Type 0) (S : Polynomial E → Type 0) (P : ℕ → ℕ → Type 0) (Q : ℕ → ℕ → Polynomial E → Type 0) → StopsBy (λ _. ⊥) (λ x y _. fault ≡ DegreeFault x y) s → StopsBy (λ _. ⊥) (λ _ _ g. N g) s → DegreesMeet P fault → ((x y : ℕ) (g : Polynomial E) → P x y → N g → Q x y g) → StopsBy S Q s
-stop-meets (Steps w) fault N S P Q a b m h = absurd a
-stop-meets (Degree x y w) fault N S P Q a b m h = h x y w (subst (DegreesMeet P) a m) b
-stop-meets NoMemory fault N S P Q a b m h = tt
+pub stop-meets : {R E : Type 0} (s : DivStop R E) (fault : RingFault) (N : Polynomial E → Type 0) (S : Polynomial E → Type 0) (P : ℕ → ℕ → Type 0) (U : Type 0) (Q : ℕ → ℕ → Polynomial E → Type 0) → StopsBy (λ _. ⊥) (λ x y _. fault ≡ DegreeFault x y) s → StopsBy (λ _. ⊥) (λ _ _ g. N g) s → DegreesMeet P fault → DegreesMeet (λ _ _. U) fault → ((x y : ℕ) (g : Polynomial E) → P x y → U → N g → Q x y g) → StopsBy S Q s
+stop-meets (Steps w) fault N S P U Q a b m u h = absurd a
+stop-meets (Degree x y w) fault N S P U Q a b m u h = h x y w (subst (DegreesMeet P) a m) (subst (DegreesMeet (λ _ _. U)) a u) b
+stop-meets NoMemory fault N S P U Q a b m u h = tt
 
 pub stop-normal : {R E : Type 0} (s : DivStop R E) (N S : Polynomial E → Type 0) → StopsBy (λ _. ⊥) (λ _ _ g. N g) s → StopsBy S (λ _ _ g. N g) s
 stop-normal (Steps w) N S b = absurd b
