@@ -164,8 +164,9 @@ module _ {E : Type 0} {o : RingOps E} (l : RingLaws o) {is_element : E → Bool}
 
 module _ {E : Type 0} {o : RingOps E} (l : RingLaws o) {is_element : E → Bool} {v : ℕ} {cmp : List ℕ → List ℕ → Ordering} (laws : MonoOrderLaws cmp) {hs : List (Polynomial E)} {f : Polynomial E} {before now : Budget} {qs : List (Polynomial E)} {rest : Polynomial E} (h : IsRound o is_element v cmp hs f before now qs rest []) where
   -- where nothing is left, the division is done
-  pub round-end : (g : Polynomial E) → IsSame (poly_ops o) g rest → IsDivision o cmp hs f h.steps g
-  round-end g same = division-same o l is_element v cmp laws hs f h.steps rest g same (turn-end o l is_element v cmp laws hs f rest h.steps h.turn)
+  pub round-end : (w g : Polynomial E) → length w ≡ 0 → IsSame (poly_ops o) g (rest ++ reverse w) → IsDivision o cmp hs f h.steps g
+  round-end [] g none same = division-same o l is_element v cmp laws hs f h.steps rest g (subst (λ (r : Polynomial E). IsSame (poly_ops o) g r) (append-nil rest) same) (turn-end o l is_element v cmp laws hs f rest h.steps h.turn)
+  round-end (t ∷ w) g none same = absurd (omega (arith, none))
 
   pub round-quotients : All (IsArranged o is_element v cmp) qs
   round-quotients k d b =
@@ -178,6 +179,15 @@ module _ {E : Type 0} {o : RingOps E} (l : RingLaws o) {is_element : E → Bool}
       let long : length qs ≡ length gs = AllZip-long (IsSame (poly_ops o)) gs qs zip in
       zip-places (IsSame (poly_ops o)) gs (quotients (length hs) h.steps) [] (quotient_at h.steps 0) (sym long ∙ h.number ∙ sym (length-quotients (length hs) h.steps))
       (λ k b. subst (λ (r : Polynomial E). IsSame (poly_ops o) (get_or gs k []) r) (h.collected k (omega (arith, b, long, h.number)) ∙ sym (quotients-at (length hs) h.steps k (omega (arith, b, long, h.number)))) (AllZip-get_or (IsSame (poly_ops o)) gs qs k [] [] zip b))
+
+module _ {E : Type 0} {o : RingOps E} {is_element : E → Bool} {v : ℕ} {cmp : List ℕ → List ℕ → Ordering} {hs : List (Polynomial E)} {f : Polynomial E} {before now : Budget} {qs : List (Polynomial E)} {rest : Polynomial E} where
+  -- the last of the list is the greatest that is left
+  pub round-front : (w left : Polynomial E) (t : Term E) → w ≡ left ++ t ∷ [] → IsRound o is_element v cmp hs f before now qs rest (reverse w) → IsRound o is_element v cmp hs f before now qs rest (t ∷ reverse left)
+  round-front w left t taken h = subst (λ (r : Polynomial E). IsRound o is_element v cmp hs f before now qs rest r) (reverse-last w left t taken) h
+
+  pub round-none : (w : Polynomial E) → length w ≡ 0 → IsRound o is_element v cmp hs f before now qs rest (reverse w) → IsRound o is_element v cmp hs f before now qs rest []
+  round-none [] none h = h
+  round-none (t ∷ w) none h = absurd (omega (arith, none))
 
 -- what was planned and put in its place takes the multiple away
 pub planned-cancels : {R E : Type 0} {o : RingOps E} (l : RingLaws o) {is_element : E → Bool} {v : ℕ} (d : Divisor R E) (t : Term E) (m : List ℕ) (q : E) (left us new : Polynomial E) → m ≡ quotient t.0 d.lead → length m ≡ v → total_degree m ≤ max_degree → IsTrue (is_element q) → ((c : E) → IsInverse o is_element c d.inverse → IsSame o (o.mul q c) t.1) → IsPlanned o left (reverse d.tail.items) m q us → ((added : Polynomial E) → AreChanged o left added us → IsSame (poly_ops o) new (left ++ added)) → Cancels o is_element v d t left new (m, q)

@@ -15,13 +15,12 @@ ghost use Rattle.rinv_div.specs.Divisors.{AreDivisors};
 ghost use Rattle.rinv_div.specs.Stops.{Divides, DividesBy, RunsOut, MeetsDegree, StepsMeet, StopsBy};
 
 use crate::budget::Budget;
-use crate::divisors::{Divisors, first_divisor};
-use crate::quotients::{empty_lists, gathered, polynomials, push_at, stopped};
-use crate::replacing::replace;
+use crate::divisors::Divisors;
+use crate::quotients::{empty_lists, gathered, polynomials};
 use crate::sorting::arranged;
-use crate::step::planned;
 use crate::stop::{DivStop, Division};
-use rinv_mono::{Mono, MonoOrder};
+use crate::turning::{Round, turn};
+use rinv_mono::MonoOrder;
 use rinv_poly::{Poly, PolyRing};
 use rinv_ring::{Field, Ring, RingFault};
 use std::alloc::Global;
@@ -49,51 +48,19 @@ pub fn divide_by<R: Ring, O: MonoOrder>(
     ensures budget { KeepsOthers steps.old steps.new }
     ensures still_within { IsWithin steps.new }
 {
-    let mut working = arranged(ring, alloc, f, order)?;
-    let mut rest = Vec::new(alloc);
-    let mut quotients = empty_lists(alloc, basis.len())?;
-    'terms: while let Some((mono, c)) = working.pop() {
-        match first_divisor(&divisors.list, &mono) {
-            None => rest.push((mono, c))?,
-            Some(place) => {
-                if steps.is_spent() {
-                    working.push((mono, c))?;
-                    let working = gathered(ring, order, rest, working)?;
-                    return Err(DivStop::Steps { working });
-                }
-                let divisor = &divisors.list[place];
-                match planned(
-                    ring.coeffs(),
-                    alloc,
-                    ring.vars(),
-                    order,
-                    divisor,
-                    &mono,
-                    &c,
-                    &working,
-                ) {
-                    Ok((multiplier, factor, changes)) => {
-                        replace(
-                            ring.coeffs(),
-                            alloc,
-                            ring.vars(),
-                            order,
-                            changes,
-                            &mut working,
-                        )?;
-                        push_at(place, (multiplier, factor), &mut quotients)?;
-                        steps.count_step();
-                    }
-                    Err(fault) => {
-                        working.push((mono, c))?;
-                        return Err(stopped(ring, order, fault, rest, working));
-                    }
-                }
-            }
-        }
+    let _spent = steps.steps_spent;
+    let left = arranged(ring, alloc, f, order)?;
+    let quotients = empty_lists(alloc, basis.len())?;
+    let mut round = Round {
+        rest: Vec::new(alloc),
+        left,
+        quotients,
+    };
+    'terms: while let Some((mono, c)) = round.left.pop() {
+        round = turn(ring, alloc, basis, divisors, order, mono, c, round, steps)?;
     }
-    let quotients = polynomials(ring, alloc, order, quotients)?;
-    let rest = gathered(ring, order, rest, working)?;
+    let quotients = polynomials(ring, alloc, order, round.quotients)?;
+    let rest = gathered(ring, order, round.rest, round.left)?;
     Ok(Division { quotients, rest })
 }
 

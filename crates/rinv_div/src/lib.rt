@@ -9,9 +9,9 @@ mod replacing;
 mod sorting;
 mod step;
 mod stop;
-mod turning;
 #[cfg(test)]
 mod tests;
+mod turning;
 
 pub use budget::Budget;
 pub use dividing::{divide, divide_by, divide_monic};

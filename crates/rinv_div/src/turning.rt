@@ -80,7 +80,16 @@ pub fn turn<R: Ring, O: MonoOrder>(
                 return Err(DivStop::Steps { working });
             }
             let divisor = &divisors.list[place];
-            match cancel(ring.coeffs(), alloc, ring.vars(), order, divisor, &mono, &c, &mut left) {
+            match cancel(
+                ring.coeffs(),
+                alloc,
+                ring.vars(),
+                order,
+                divisor,
+                &mono,
+                &c,
+                &mut left,
+            ) {
                 Ok(multiplier) => {
                     push_at(place, multiplier, &mut quotients)?;
                     steps.count_step();
@@ -120,8 +129,9 @@ fn cancel<R: Ring, O: MonoOrder>(
     ensures degree { IfErr result (DegreesMeet (λ x y. TermsMeet ((quotient mono.now divisor.now.lead, c.now) ∷ []) divisor.now.tail.items x y ⊎ OperationsMeet (R.too_high coeffs.now) x y)) }
     ensures unchanged { IfErr result (DegreesMeet (λ _ _. left.new.items ≡ left.old.items)) }
 {
-    let (multiplier, factor, changes) =
-        planned(coeffs, alloc, vars, order, divisor, mono, c, left)?;
+    let (multiplier, factor, changes) = planned(
+        coeffs, alloc, vars, order, divisor, mono, c, left,
+    )?;
     replace(coeffs, alloc, vars, order, changes, left)?;
     Ok((multiplier, factor))
 }
