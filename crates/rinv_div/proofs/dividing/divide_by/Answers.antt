@@ -12,7 +12,7 @@ terms-init g c =
     rw c.new.ensures.items
     (round-start (g.R.Ring.ops c.args.ring.now.coeffs) (g.R.Ring.laws c.args.ring.now.coeffs) (g.R.Ring.is_element c.args.ring.now.coeffs) c.args.ring.now.vars (g.O.MonoOrder.cmp c.args.order.now) (g.O.MonoOrder.laws c.args.order.now) c.args.basis.now c.args.f.now c.args.steps.now (map (λ x. x.items) quotients.quotients.items) (reverse left.left.items) left.ensures.arranged left.ensures.value
     (length-map quotients.quotients.items (λ x. x.items) ∙ quotients.ensures.len)
-    (all-empty (λ x. x.items) quotients.quotients.items quotients.ensures.empty) ?low c.requires.within)
+    (all-empty (λ x. x.items) quotients.quotients.items quotients.ensures.empty) (search rules) c.requires.within)
 
 pub turn-requires-clause-terms : goal.turn-requires-clause-terms
 turn-requires-clause-terms g c = (round-front c.terms.round.left.items c.pop.new.self.items (c.in-Some.mono, c.in-Some.c) c.in-Some.ensures.items c.terms.invariant).turn.whole
