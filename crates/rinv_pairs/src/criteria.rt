@@ -24,7 +24,12 @@ pub fn chain_by(first: &Mono, second: &Mono, by: &Mono) -> bool
 fn share_no_variable(left: &[u32], right: &[u32]) -> bool
     ensures { result ≡ coprime left.now right.now }
 {
-    left.iter().zip(right).all(|(x, y)| *x == 0 || *y == 0)
+    for k in 0..left.len() {
+        if left[k] > 0 && exponent_at(right, k) > 0 {
+            return false;
+        }
+    }
+    true
 }
 
 // Whether no exponent is greater than both of the others in its place.

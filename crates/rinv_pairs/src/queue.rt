@@ -1,9 +1,10 @@
 //! The pairs of the elements of a growing list, each to be taken once.
 
-ghost use Rattle.std.specs.Prelude.{◌≡◌, ◌+◌, ◌<◌, List, [], length, IfErr, OnOk};
+ghost use Rattle.std.specs.Prelude.{◌≡◌, ◌+◌, ◌^◌, ◌<◌, List, [], ◌∷◌, ◌++◌, length, IfErr, OnOk};
 ghost use Rattle.std.specs.Option.{MatchOption};
 ghost use Rattle.rinv_groebner.specs.Settled.{is_listed};
 ghost use Rattle.rinv_pairs.specs.Pairs.{AreAllTaken, Takes};
+ghost use Rattle.rinv_pairs.specs.Counters.{pairs_before, IsNext};
 ghost use Rattle.rinv_pairs.specs.High.{AreLow, IsFirstHigh};
 
 use crate::multiples::refuse_high;
@@ -89,15 +90,29 @@ impl PairQueue {
     pub fn taken(&self, pair: Pair) -> bool
         ensures { result ≡ is_listed self.now.taken pair.first pair.second }
     {
-        let low = pair.first.min(pair.second);
-        let high = pair.first.max(pair.second);
-        low < high && (high < self.next.second || high == self.next.second && low < self.next.first)
+        is_before(pair, self.next)
+    }
+}
+
+// Whether the pair of these two places, in whichever order, stands before the other in the order of adding.
+fn is_before(pair: Pair, other: Pair) -> bool
+    ensures { result ≡ is_listed (pairs_before other.first other.second) pair.first pair.second }
+{
+    let low = pair.first.min(pair.second);
+    let high = pair.first.max(pair.second);
+    if high == other.second {
+        low < other.first
+    } else {
+        low < high && high < other.second
     }
 }
 
 // The pair after this one in the order of adding.
 fn after(pair: Pair) -> Pair
     requires ascending { pair.first < pair.second }
+    requires room { pair.second + 1 < 2 ^ 32 }
+    ensures next { IsNext (pair.second + 1) result.first result.second }
+    ensures listed { pairs_before result.first result.second ≡ pairs_before pair.first pair.second ++ (pair.first, pair.second) ∷ [] }
 {
     if pair.first + 1 < pair.second {
         Pair {
