@@ -1,7 +1,6 @@
 -- The pairs in the order of adding: which stand before a pair, and how many.
-use Rattle.std.proofs.Common.{◌≡◌, ℕ, zero, suc, ◌+◌, ◌<◌, ◌≤◌, min, max, Bool, List, [], ◌∷◌, ◌++◌, length, refl, sym, ◌∙◌, ap, ap₂, add-one, inl, inr, arith}
-use Rattle.std.specs.Prelude.{nat_lt, nat_eq, ◌&&◌, ◌||◌, ◌==◌, IsTrue, IsFalse}
-use Rattle.std.specs.List.{list_any}
+use Rattle.std.proofs.Common.{◌≡◌, ℕ, zero, suc, ◌+◌, ◌<◌, ◌≤◌, min, max, [], ◌∷◌, ◌++◌, length, refl, sym, ◌∙◌, ap, ap₂, add-one, inl, inr, arith}
+use Rattle.std.specs.Prelude.{nat_lt, ◌&&◌, ◌||◌, ◌==◌, IsTrue, IsFalse}
 use Rattle.std.proofs.lemmas.Bool.{cases_order}
 use Rattle.std.proofs.lemmas.Bool.Decides.{nat_tests}
 use Rattle.std.proofs.lemmas.List.{append_assoc, append-nil, length-append}
@@ -69,4 +68,4 @@ before-more i j = rw add-one (sym (append_assoc (pairs_below j) (pairs_with j i)
 
 pub before-last : (i j : ℕ) → i + 1 ≡ j → pairs_before 0 (j + 1) ≡ pairs_before i j ++ (i, j) ∷ []
 unfolding pairs_with pairs_below
-before-last i j e = append-nil (pairs_below (j + 1)) ∙ rw add-one j (ap (λ (n : ℕ). pairs_below j ++ pairs_with j n) (sym e)) ∙ before-more i j
+before-last i j e = append-nil (pairs_below (j + 1)) ∙ (rw (add-one j) (ap (λ (n : ℕ). pairs_below j ++ pairs_with j n) (sym e))) ∙ before-more i j

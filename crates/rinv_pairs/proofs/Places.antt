@@ -34,7 +34,7 @@ divides-first (x ∷ a) (y ∷ b) (z ∷ c) = refl
 sum-lcm-first : (a b : List ℕ) → sum (lcm a b) ≡ max (get_or a 0 0) (get_or b 0 0) + sum (lcm (drop 1 a) (drop 1 b))
 unfolding lcm
 sum-lcm-first [] [] = refl
-sum-lcm-first [] (y ∷ b) = sum_by-cons (λ (n : ℕ). n) y b
+sum-lcm-first [] (y ∷ b) = omega (arith, sum_by-cons (λ (n : ℕ). n) y b)
 sum-lcm-first (x ∷ a) [] = rw (lcm-nil a) (omega (arith, sum_by-cons (λ (n : ℕ). n) x a))
 sum-lcm-first (x ∷ a) (y ∷ b) = sum_by-cons (λ (n : ℕ). n) (max x y) (lcm a b)
 

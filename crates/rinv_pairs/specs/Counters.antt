@@ -16,7 +16,7 @@ abbrev pub pairs_before : ℕ → ℕ → List (ℕ × ℕ)
 pairs_before i j = pairs_below j ++ pairs_with j i
 
 -- (i, j) is the next pair of so many elements, or the first one that a further element will bring
-pub record IsNext (elements i j : ℕ) : Type 0 where
+pub record IsNextPair (elements i j : ℕ) : Type 0 where
   pub ascending : i < j
   pub near : j ≤ max elements 1
   pub first : elements ≤ j → i ≡ 0

@@ -4,7 +4,7 @@ ghost use Rattle.std.specs.Prelude.{◌≡◌, ◌+◌, ◌^◌, ◌<◌, List, 
 ghost use Rattle.std.specs.Option.{MatchOption};
 ghost use Rattle.rinv_groebner.specs.Settled.{is_listed};
 ghost use Rattle.rinv_pairs.specs.Pairs.{AreAllTaken, Takes};
-ghost use Rattle.rinv_pairs.specs.Counters.{pairs_before, IsNext};
+ghost use Rattle.rinv_pairs.specs.Counters.{pairs_before, IsNextPair};
 ghost use Rattle.rinv_pairs.specs.High.{AreLow, IsFirstHigh};
 
 use crate::multiples::refuse_high;
@@ -28,7 +28,7 @@ pub struct PairQueue {
 
 impl Model for PairQueue {
     ghost use Rattle.rinv_pairs.specs.Pairs.{Pairs};
-    ghost use Rattle.rinv_pairs.specs.Counters.{pairs_before, IsNext};
+    ghost use Rattle.rinv_pairs.specs.Counters.{pairs_before, IsNextPair};
 
     ghost Value = { Pairs };
 
@@ -37,7 +37,7 @@ impl Model for PairQueue {
       taken = pairs_before q.next.first q.next.second;
     } };
 
-    ghost invariant = { λ q. IsNext q.elements q.next.first q.next.second };
+    ghost invariant = { λ q. IsNextPair q.elements q.next.first q.next.second };
 }
 
 impl PairQueue {
@@ -111,7 +111,7 @@ fn is_before(pair: Pair, other: Pair) -> bool
 fn after(pair: Pair) -> Pair
     requires ascending { pair.first < pair.second }
     requires room { pair.second + 1 < 2 ^ 32 }
-    ensures next { IsNext (pair.second + 1) result.first result.second }
+    ensures next { IsNextPair (pair.second + 1) result.first result.second }
     ensures listed { pairs_before result.first result.second ≡ pairs_before pair.first pair.second ++ (pair.first, pair.second) ∷ [] }
 {
     if pair.first + 1 < pair.second {

@@ -1,4 +1,4 @@
-use Rattle.std.proofs.Common.{◌≡◌, ◌∙◌, ◌+◌, List, [], ℕ, arith, drop, sum, refl, sym, ap₂}
+use Rattle.std.proofs.Common.{◌≡◌, List, ℕ, arith, drop, sum, ap₂}
 use Rattle.std.proofs.lemmas.List.{drop_all}
 use Rattle.rinv_algebra.specs.Monomial.{lcm}
 use Rattle.rinv_mono.proofs.Pairwise.{sum-lcm-le}

@@ -1,5 +1,6 @@
 use Rattle.std.proofs.Common.{◌<◌, refl, subst, arith}
 use Rattle.rinv_pairs.specs.Pairs.{Pairs, AreAllTaken, Takes}
+use Rattle.rinv_pairs.specs.Counters.{pairs_before}
 use Rattle.rinv_pairs.proofs.Order.{before-fresh, before-all, before-fewer}
 use Rattle.rinv_pairs.proofs.queue.PairQueue.take.Goals as goal
 
@@ -12,7 +13,9 @@ returns c =
     let j = c.self.inside.next.second in
     let low : i < j = c.self.invariant.ascending in
     let high : j < c.self.inside.elements = omega arith in
-    subst (λ (q : Pairs). Takes i j q _) c.self.view_is (record {
+    let next = c.after-self-inside.result in
+    let after : Pairs = record { elements = c.self.inside.elements; taken = pairs_before next.first next.second } in
+    subst (λ (q : Pairs). Takes i j q after) c.self.view_is (record {
       ascending = low;
       inside = high;
       fresh = before-fresh i j low;
