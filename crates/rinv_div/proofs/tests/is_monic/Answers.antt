@@ -1,6 +1,6 @@
-use Rattle.std.proofs.Common.{◌≡◌, ◌∙◌, sym, reverse, ◌∷◌, subst}
+use Rattle.std.proofs.Common.{◌≡◌, true, false, sym, reverse, ◌∷◌, subst}
 use Rattle.rinv_algebra.specs.Ring.{IsSame}
-use Rattle.rinv_algebra.specs.Polynomial.{Polynomial, Term, poly_ops}
+use Rattle.rinv_algebra.specs.Polynomial.{Polynomial, Term, poly_ops, is_zero}
 use Rattle.rinv_algebra.proofs.RingFacts as facts
 use Rattle.rinv_poly.proofs.Forms.{ordered-from_normal}
 use Rattle.rinv_poly.proofs.Moving.{reverse-last}
@@ -38,5 +38,7 @@ returns-clause-monic g c monic =
     let a : IsArranged o e v cmp (t ∷ rest) = subst (λ (f : Polynomial _). IsArranged o e v cmp f) front c.in_ok-terms.ensures.arranged in
     let same : IsSame (poly_ops o) (t ∷ rest) h = subst (λ (f : Polynomial _). IsSame (poly_ops o) f h) front c.in_ok-terms.ensures.value in
     let one : IsSame o c.in_ok-one.one o.one = rw c.coeffs-coeffs.ensures at c.in_ok-one.ensures.value in
-    let equal : IsSame o c.in-Some.c c.in_ok-one.one = rw c.coeffs-coeffs.ensures at (sym c.in_ok-same.ensures.value ∙ monic) in
-    facts.then o l (lead-coefficient o l e v cmp laws ties h n (sym c.is_zero.ensures ∙ c.if-is_zero.false) t rest a same) (facts.then o l equal one)
+    let some : false ≡ is_zero o h = rw c.if-is_zero.false at c.is_zero.ensures in
+    let held = rw monic at c.in_ok-same.ensures.value in
+    let equal : true ≡ o.same c.in-Some.c c.in_ok-one.one = rw c.coeffs-coeffs.ensures at held in
+    facts.then o l (lead-coefficient o l e v cmp laws ties h n (sym some) t rest a same) (facts.then o l (sym equal) one)
