@@ -47,11 +47,6 @@ stop-meets (Steps w) fault N S P U Q a b m u h = absurd a
 stop-meets (Degree x y w) fault N S P U Q a b m u h = h x y w (subst (DegreesMeet P) a m) (subst (DegreesMeet (λ _ _. U)) a u) b
 stop-meets NoMemory fault N S P U Q a b m u h = tt
 
-pub stop-normal : {R E : Type 0} (s : DivStop R E) (N S : Polynomial E → Type 0) → StopsBy (λ _. ⊥) (λ _ _ g. N g) s → StopsBy S (λ _ _ g. N g) s
-stop-normal (Steps w) N S b = absurd b
-stop-normal (Degree x y w) N S b = b
-stop-normal NoMemory N S b = tt
-
 module _ {E : Type 0} (o : RingOps E) (l : RingLaws o) (is_element : E → Bool) (v : ℕ) (cmp : List ℕ → List ℕ → Ordering) (laws : MonoOrderLaws cmp) where
   -- the polynomial has the monomials of the divisor's tail
   tail-has : {R : Type 0} → (h : Polynomial E) (d : Divisor R E) → IsDivisor o is_element v cmp h d → (u : Term E) → Contains (reverse d.tail.items) u → has_monomial o h u.0 ≡ true
