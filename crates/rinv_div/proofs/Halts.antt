@@ -1,15 +1,15 @@
 -- Why a division stops, from its state between two terms.
-use Rattle.std.proofs.Common.{◌≡◌, ℕ, zero, suc, ◌+◌, ◌<◌, ◌≤◌, Bool, true, false, not, List, [], ◌∷◌, ◌++◌, length, get_or, reverse, map, All, refl, sym, ap, ◌∙◌, arith, subst, inl, inr, ◌⊎◌, IsTrue, true≢false}
+use Rattle.std.proofs.Common.{◌≡◌, ℕ, zero, suc, ◌<◌, ◌≤◌, Bool, true, false, not, List, [], ◌∷◌, ◌++◌, get_or, reverse, sym, ap, ◌∙◌, arith, subst, inl, inr, ◌⊎◌, IsTrue, true≢false}
 use Rattle.std.specs.Prelude.{Option, Some, None, IfSome, Contains}
 use Rattle.std.proofs.lemmas.Bool.{cases_Bool}
 use Rattle.std.proofs.lemmas.List.Elements.{All-contains}
 use Rattle.std.specs.declared.cmp.Ordering.{Ordering}
 use Rattle.std.specs.declared.cmp.Ordering.TheVariants.{Less}
 use Rattle.rinv_algebra.specs.Ring.{RingOps, RingLaws, IsSame}
-use Rattle.rinv_algebra.specs.Monomial.{same_monomial, monomial_product, quotient, divides, total_degree, max_degree}
+use Rattle.rinv_algebra.specs.Monomial.{same_monomial, monomial_product, quotient, total_degree}
 use Rattle.rinv_algebra.specs.MonomialOrder.{MonoOrderLaws}
 use Rattle.rinv_algebra.specs.Polynomial.{Term, Polynomial, poly_ops, coefficient, has_monomial}
-use Rattle.rinv_algebra.specs.Leading.{leading_monomial, leading_coefficient}
+use Rattle.rinv_algebra.specs.Leading.{leading_coefficient}
 use Rattle.rinv_algebra.proofs.RingFacts as facts
 use Rattle.rinv_algebra.proofs.MonomialLaws.{same_monomial_refl}
 use Rattle.rinv_groebner.proofs.Reducible.{divisor_reducible}
@@ -17,19 +17,18 @@ use Rattle.rinv_ring.specs.Operation.{RingOp}
 use Rattle.rinv_ring.specs.Fault.{DegreesMeet}
 use Rattle.rinv_ring.specs.declared.fault.RingFault.{RingFault}
 use Rattle.rinv_ring.specs.declared.fault.RingFault.TheVariants.{Degree as DegreeFault}
-use Rattle.rinv_poly.specs.Faults.{HasDegree, IsDegreeOf, TermsMeet, OperationsMeet}
+use Rattle.rinv_poly.specs.Faults.{IsDegreeOf, TermsMeet, OperationsMeet}
 use Rattle.rinv_poly.proofs.Dividing.{product-quotient}
 use Rattle.rinv_poly.proofs.Forms.{IsNormalTerm}
 use Rattle.rinv_poly.proofs.Gather.{same-back}
-use Rattle.rinv_div.specs.Arranged.{IsArranged}
-use Rattle.rinv_div.specs.Divisors.{IsDivisor, AreDivisors, IsInverse}
+use Rattle.rinv_div.specs.Divisors.{IsDivisor, IsInverse}
 use Rattle.rinv_div.specs.Rounds.{IsRound}
-use Rattle.rinv_div.specs.Stops.{ProductMeets, Leaves, RunsOut, NextMeets, MeetsDegree, StepsMeet, StopsBy}
+use Rattle.rinv_div.specs.Stops.{Leaves, RunsOut, MeetsDegree, StepsMeet, StopsBy}
 use Rattle.rinv_div.specs.declared.budget.Budget.{Budget}
 use Rattle.rinv_div.specs.declared.divisors.Divisor.{Divisor}
 use Rattle.rinv_div.specs.declared.stop.DivStop.{DivStop}
 use Rattle.rinv_div.specs.declared.stop.DivStop.TheVariants.{Steps, Degree, NoMemory}
-use Rattle.rinv_div.proofs.Arranging.{Below, arranged-terms, later-coefficient, place-coefficient}
+use Rattle.rinv_div.proofs.Arranging.{arranged-terms, later-coefficient, place-coefficient}
 use Rattle.rinv_div.proofs.DividedBy.{IsChosen}
 use Rattle.rinv_div.proofs.Leads.{has-same}
 use Rattle.rinv_div.proofs.Rounds.{round-steps, round-has, round-next, whole-first}

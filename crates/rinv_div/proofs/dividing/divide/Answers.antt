@@ -1,10 +1,5 @@
-use Rattle.std.proofs.Common.{◌≡◌, ◌∙◌, sym, ap, arith, take, subst, All, rules}
 use Rattle.std.proofs.lemmas.List.{take_all}
-use Rattle.std.proofs.lemmas.List.Elements.{All-get_or}
-use Rattle.rinv_algebra.specs.Normal.{IsNormal}
-use Rattle.rinv_algebra.specs.Polynomial.{is_zero}
 use Rattle.rinv_div.proofs.DividedBy.{divisors-nil, divisors-next}
-use Rattle.rinv_div.proofs.Spending.{keeps-refl}
 use Rattle.rinv_div.proofs.dividing.divide.Goals as goal
 
 pub loop-h-init : goal.loop-h-init

@@ -1,11 +1,7 @@
-use Rattle.std.proofs.Common.{◌≡◌, ◌∙◌, sym, ap, arith, take, subst, All, rules, true≢false}
+use Rattle.std.proofs.Common.{◌∙◌, sym, true≢false}
 use Rattle.rinv_div.proofs.Halts.{degree-meets}
 use Rattle.std.proofs.lemmas.List.{take_all}
-use Rattle.std.proofs.lemmas.List.Elements.{All-get_or}
-use Rattle.rinv_algebra.specs.Normal.{IsNormal}
-use Rattle.rinv_algebra.specs.Polynomial.{is_zero}
 use Rattle.rinv_div.proofs.DividedBy.{divisors-nil, divisors-next}
-use Rattle.rinv_div.proofs.Spending.{keeps-refl}
 use Rattle.rinv_div.proofs.dividing.divide_monic.Goals as goal
 
 pub loop-h-init : goal.loop-h-init
