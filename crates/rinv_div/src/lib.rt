@@ -1,0 +1,19 @@
+//! Division of a polynomial by a list of polynomials.
+#![tactic(auto)]
+
+mod budget;
+mod dividing;
+mod divisors;
+mod quotients;
+mod replacing;
+mod sorting;
+mod step;
+mod stop;
+#[cfg(test)]
+mod tests;
+mod turning;
+
+pub use budget::Budget;
+pub use dividing::{divide, divide_by, divide_monic};
+pub use divisors::{Divisor, Divisors};
+pub use stop::{DivStop, Division};
