@@ -4,8 +4,8 @@ ghost use Rattle.std.specs.Prelude.{◌≡◌, IsTrue, IfOk, nat_lt};
 ghost use Rattle.rinv_algebra.specs.Normal.{IsNormal};
 ghost use Rattle.rinv_algebra.specs.Residue.{residue_ops};
 
-use super::{KPoly, Poly, PolyRing};
 use rinv_mono::{Blocks, Grevlex, Mono, MonoOrder};
+use rinv_poly::{KPoly, Poly, PolyRing};
 use rinv_ring::{Field, Gf, Ring, RingFault};
 use std::alloc::Global;
 use std::test::Fail;
