@@ -89,11 +89,18 @@ fn refused(read: &Result<StoredCertificate, FormatStop>) -> u32 {
     }
 }
 
-// The part that is refused of the certificate with another value of one key.
-fn part(alloc: Global, key: &str, old: &str, new: &str) -> Result<u32, Fail> {
+// The number of the part that is refused of a certificate in bytes; 97 where it is not read.
+fn part_of(alloc: Global, bytes: &[u8]) -> u32 {
+    match from_json(alloc, bytes) {
+        Ok(certificate) => refused(&stored(alloc, &certificate)),
+        Err(_) => 97,
+    }
+}
+
+// The same, of the certificate with another value of one key.
+fn part(alloc: Global, key: &str, old: &str, new: &str) -> Result<u32, AllocError> {
     let text = with_value(alloc, key, old, new)?;
-    let certificate = from_json(alloc, text.as_bytes())?;
-    Ok(refused(&stored(alloc, &certificate)))
+    Ok(part_of(alloc, text.as_bytes()))
 }
 
 #[test]
@@ -120,14 +127,27 @@ fn tells_names(rt: HostRuntime) -> Result<(), Fail> {
     Ok(())
 }
 
-// The condition that fails of the certificate with another value of one key, and its place; 0 where none fails.
-fn failure(alloc: Global, key: &str, old: &str, new: &str) -> Result<(u32, u32), Fail> {
-    let text = with_value(alloc, key, old, new)?;
-    let certificate = from_json(alloc, text.as_bytes())?;
-    match check(alloc, &certificate)? {
-        Verdict::Yes => Ok((0, 0)),
-        Verdict::No { condition, index } => Ok((condition, index)),
+// The condition that fails and its place; 0 where none fails, and 98 where there is no verdict.
+fn failure_of(verdict: Result<Verdict, AllocError>) -> (u32, u32) {
+    match verdict {
+        Ok(Verdict::Yes) => (0, 0),
+        Ok(Verdict::No { condition, index }) => (condition, index),
+        Err(_) => (98, 0),
     }
+}
+
+// The failure of a certificate in bytes; 97 where it is not read.
+fn failure_in(alloc: Global, bytes: &[u8]) -> (u32, u32) {
+    match from_json(alloc, bytes) {
+        Ok(certificate) => failure_of(check(alloc, &certificate)),
+        Err(_) => (97, 0),
+    }
+}
+
+// The same, of the certificate with another value of one key.
+fn failure(alloc: Global, key: &str, old: &str, new: &str) -> Result<(u32, u32), AllocError> {
+    let text = with_value(alloc, key, old, new)?;
+    Ok(failure_in(alloc, text.as_bytes()))
 }
 
 #[test]

@@ -87,36 +87,38 @@ fn is_square(certificate: &Certificate) -> bool {
     }
 }
 
-fn is_read(read: &Result<Certificate, CertStop>, field: u32) -> bool {
-    match read {
-        Ok(certificate) => is_signs(&certificate.system, field) && is_square(certificate),
+// Whether the bytes are read as the certificate, over this field.
+fn reads(alloc: Global, bytes: &[u8], field: u32) -> bool {
+    match from_json(alloc, bytes) {
+        Ok(certificate) => is_signs(&certificate.system, field) && is_square(&certificate),
         Err(_) => false,
     }
 }
 
-fn is_refused(read: &Result<Certificate, CertStop>) -> bool {
-    match read {
+// Whether the bytes are refused as no certificate.
+fn refuses(alloc: Global, bytes: &[u8]) -> bool {
+    match from_json(alloc, bytes) {
         Err(CertStop::Fault(fault)) => fault.part == Part::Json && fault.index == 0,
         _ => false,
     }
 }
 
 // Whether the changed certificate is read, with this field.
-fn reads(alloc: Global, old: &str, new: &str, field: u32) -> Result<bool, AllocError> {
+fn reads_changed(alloc: Global, old: &str, new: &str, field: u32) -> Result<bool, AllocError> {
     let text = changed(alloc, old, new)?;
-    Ok(is_read(&from_json(alloc, text.as_bytes()), field))
+    Ok(reads(alloc, text.as_bytes(), field))
 }
 
 // Whether the changed certificate is refused.
-fn refuses(alloc: Global, old: &str, new: &str) -> Result<bool, AllocError> {
+fn refuses_changed(alloc: Global, old: &str, new: &str) -> Result<bool, AllocError> {
     let text = changed(alloc, old, new)?;
-    Ok(is_refused(&from_json(alloc, text.as_bytes())))
+    Ok(refuses(alloc, text.as_bytes()))
 }
 
 #[test]
 fn reads_what_is_denoted(rt: HostRuntime) -> Result<(), Fail> {
     for (old, new, field) in DENOTED {
-        assert!(rt; reads(rt.alloc(), old, new, *field)?, "at {new}");
+        assert!(rt; reads_changed(rt.alloc(), old, new, *field)?, "at {new}");
     }
     Ok(())
 }
@@ -124,7 +126,7 @@ fn reads_what_is_denoted(rt: HostRuntime) -> Result<(), Fail> {
 #[test]
 fn refuses_what_denotes_nothing(rt: HostRuntime) -> Result<(), Fail> {
     for (old, new) in NOT_DENOTED {
-        assert!(rt; refuses(rt.alloc(), old, new)?, "at {new}");
+        assert!(rt; refuses_changed(rt.alloc(), old, new)?, "at {new}");
     }
     Ok(())
 }
@@ -144,9 +146,9 @@ fn no_text(alloc: Global) -> Result<Vec<u8>, AllocError> {
 #[test]
 fn refuses_no_text(rt: HostRuntime) -> Result<(), Fail> {
     let alloc = rt.alloc();
-    assert!(rt; is_refused(&from_json(alloc, b"")), "at no bytes");
+    assert!(rt; refuses(alloc, b""), "at no bytes");
     let bytes = no_text(alloc)?;
-    assert!(rt; is_refused(&from_json(alloc, &bytes)), "at no text");
+    assert!(rt; refuses(alloc, &bytes), "at no text");
     Ok(())
 }
 
@@ -158,20 +160,21 @@ fn nested(alloc: Global, depth: usize) -> Result<String, AllocError> {
     changed(alloc, "\"unit\"", entry.as_str())
 }
 
+fn reads_nested(alloc: Global, depth: usize) -> Result<bool, AllocError> {
+    let text = nested(alloc, depth)?;
+    Ok(reads(alloc, text.as_bytes(), 7))
+}
+
+fn refuses_nested(alloc: Global, depth: usize) -> Result<bool, AllocError> {
+    let text = nested(alloc, depth)?;
+    Ok(refuses(alloc, text.as_bytes()))
+}
+
 // The reader of JSON takes 127 levels, of which the object is the first.
 #[test]
 fn refuses_deep_nesting(rt: HostRuntime) -> Result<(), Fail> {
-    let alloc = rt.alloc();
-    let deep = nested(alloc, 126)?;
-    assert!(rt;
-        is_read(&from_json(alloc, deep.as_bytes()), 7),
-        "at depth 126"
-    );
-    let deeper = nested(alloc, 127)?;
-    assert!(rt;
-        is_refused(&from_json(alloc, deeper.as_bytes())),
-        "at depth 127"
-    );
+    assert!(rt; reads_nested(rt.alloc(), 126)?, "at depth 126");
+    assert!(rt; refuses_nested(rt.alloc(), 127)?, "at depth 127");
     Ok(())
 }
 
