@@ -6,8 +6,6 @@ mod fault;
 mod items;
 mod read;
 mod shape;
-#[cfg(test)]
-mod tests;
 
 pub use certificate::{Certificate, Polynomial, System, Term};
 pub use fault::{CertFault, CertStop, Part};

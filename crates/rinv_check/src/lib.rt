@@ -5,8 +5,6 @@ mod form;
 mod format;
 mod invariance;
 mod names;
-#[cfg(test)]
-mod tests;
 mod verdict;
 
 pub use format::{FormatStop, StoredCertificate, stored};

@@ -14,9 +14,9 @@ ghost use Rattle.rinv_poly.specs.Faults.{CoefficientsMeet, polynomials_meet};
 use crate::collect::collected;
 use crate::compare::same_terms;
 use crate::merge::{Sign, merged};
-use crate::polynomial::{Poly, push_term};
+use crate::polynomial::Poly;
 use crate::products::products;
-use crate::terms::{copied, past_zeros, scaled, shifted};
+use crate::terms::{copied, scaled, shifted};
 use rinv_mono::Mono;
 use rinv_ring::{NoMemory, Ring, RingFault};
 use std::alloc::Global;
@@ -141,11 +141,8 @@ impl<R: Ring> Ring for PolyRing<R> {
     }
 
     fn one(&self, alloc: Global) -> Result<Poly<R>, NoMemory> {
-        let unit = past_zeros(alloc, self.vars, &[])?;
-        let one = self.coeffs.one(alloc)?;
-        let mut terms = Vec::new(alloc);
-        push_term(&self.coeffs, unit, one, &mut terms)?;
-        let one = Poly::of_terms(terms)?;
+        let unit = self.coeffs.one(alloc)?;
+        let one = self.constant(alloc, unit)?;
         Ok(one)
     }
 

@@ -36,6 +36,13 @@ divides-requires g c =
     let here = dividing-popped o l e v u others divisor c.args.dividend.now c.terms.quotient.items c.terms.left.items c.pop.new.self.items t c.in-Some-pop.ensures.items c.terms.invariant.state in
     (ordered-head o e v u others divisor).vars ∙ sym (ordered-head o e v t rest here.rest).vars
 
+-- None has no terms: a quotient in its place is refused at once, where a search would look for its proof
+pub returns-then-not-divides-clause-normal : goal.returns-then-not-divides-clause-normal
+returns-then-not-divides-clause-normal g c = tt
+
+pub returns-then-not-divides-clause-value : goal.returns-then-not-divides-clause-value
+returns-then-not-divides-clause-value g c = tt
+
 pub returns-then-not-divides-clause-none : goal.returns-then-not-divides-clause-none
 returns-then-not-divides-clause-none g c =
     let o = g.R.Ring.ops c.args.coeffs.now in
