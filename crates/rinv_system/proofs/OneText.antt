@@ -8,7 +8,7 @@ use Rattle.rinv_system.specs.Texts.{IsLineTaken, AreTaken}
 use Rattle.rinv_system.proofs.Good.{IsGood, HasForm, AreTaken-good}
 use Rattle.rinv_system.proofs.OneNext.{one-next}
 
-good-listed : {d : Draft} → IsGood d → IsTrue (is_listed (modulus d))
+pub good-listed : {d : Draft} → IsGood d → IsTrue (is_listed (modulus d))
 good-listed IsGood.start = refl
 good-listed (IsGood.with_field p listed) = listed
 good-listed (IsGood.with_group p group listed names) = listed

@@ -38,6 +38,7 @@ pub mod Powers
 pub mod Piles
 pub mod Read
 pub mod Denoted
+pub mod Readable
 pub mod Expressions
 pub mod PrintedTokens
 pub mod PrintedBytes
