@@ -1,17 +1,15 @@
 -- A text has a system or a refusal.
-use Rattle.std.proofs.Common.{◌≡◌, ◌⊎◌, inl, inr, ℕ, ◌+◌, ◌<◌, ◌^◌, List, [], ◌∷◌, ◌++◌, length, nat_lt, true, false, IsTrue, Option, Some, None, refl, sym, subst, ap, ◌∙◌, append_assoc, append-nil, arith}
-use Rattle.std.specs.List.{All, Any, list_all}
+use Rattle.std.proofs.Common.{◌≡◌, ◌⊎◌, inl, inr, ℕ, ◌^◌, List, [], ◌∷◌, ◌++◌, length, IsTrue, Option, Some, None, refl, sym, subst, ap, ◌∙◌, append_assoc, append-nil, arith}
+use Rattle.std.specs.List.{All, list_all}
 use Rattle.std.proofs.lemmas.Bool.{cases_Bool, cases_lt, le-leb}
 use Rattle.std.proofs.lemmas.List.Elements.{All-nil, All-head, All-tail, All-push}
 use Rattle.rinv_algebra.specs.Residue.{is_listed}
 use Rattle.rinv_defs.specs.System.{Poly}
 use Rattle.rinv_ring.specs.declared.modulus.FieldFault.TheVariants.{TooSmall, TooLarge, NotListed}
-use Rattle.rinv_text.specs.declared.fault.TextFault.{TextFault}
 use Rattle.rinv_text.specs.declared.fault.TextCode.TheVariants.{Expression, Name, Limit}
 use Rattle.rinv_text.specs.Told.{Told}
 use Rattle.rinv_text.specs.Tokens.{number_of}
 use Rattle.rinv_text.specs.Names.{is_new_name}
-use Rattle.rinv_text.specs.Stops.{IsRefused}
 use Rattle.rinv_text.proofs.OneReading.{has_one_reading}
 use Rattle.rinv_text.proofs.Readable.{has_polynomial}
 use Rattle.rinv_system.specs.declared.keyword.Keyword.{Keyword}

@@ -15,7 +15,7 @@ pub mod Unambiguous
 pub mod OneReading
 pub mod Tokenwise
 pub mod Prefixes
-pub mod Digits
+pub mod DigitFacts
 pub mod Places
 pub mod Joined
 mod TermsInTurn
