@@ -7,21 +7,23 @@ use std::time::Instant;
 
 const HEAD: &[u8] = b"field 32003\ngroup a, b, c, d, e, f, g, h\nspace x\nideal ";
 
-const TAIL: &[u8] = b"\nunit 0, 0, 0, 0, 0, 0, 0, 0\nproduct a, b, c, d, e, f, g, h\ninverse a, b, c, d, e, f, g, h\naction x\n";
+const TAIL: &[u8] =
+    b"\nunit 0, 0, 0, 0, 0, 0, 0, 0\nproduct a, b, c, d, e, f, g, h\ninverse a, b, c, d, e, f, g, h\naction x\n";
 
 // The greatest number of bytes that is measured.
 const MAX_BYTES: usize = 16_777_216;
 
-/// Measures the three texts.
-pub(crate) fn measure(
-    rt: &(impl Print + std::rt::Clock),
-    alloc: Global,
-) -> anyhow::Result<()> {
-    if let Ok(line) = long_sum(alloc) {
-        read(rt, alloc, "a long line", &line)?;
+/// Measures the texts.
+pub(crate) fn measure(rt: &(impl Print + std::rt::Clock), alloc: Global) -> anyhow::Result<()> {
+    for count in [260_000, 520_000] {
+        if let Ok(line) = long_sum(alloc, count) {
+            read(rt, alloc, "a long line", &line)?;
+        }
     }
-    if let Ok(product) = product(alloc) {
-        read(rt, alloc, "a product of sums of 1,000 terms", &product)?;
+    for count in [500, 1000] {
+        if let Ok(product) = product(alloc, count) {
+            read(rt, alloc, "a product of sums", &product)?;
+        }
     }
     read(rt, alloc, "a power of a sum", b"(a+b+c+d+e+f+g+h+a+1)^6")
 }
@@ -60,29 +62,29 @@ fn system_text(alloc: Global, ideal: &[u8]) -> Result<Vec<u8>, NoMemory> {
     Ok(text)
 }
 
-// A sum of 520,000 terms in nearly 16 MB.
-fn long_sum(alloc: Global) -> Result<Vec<u8>, NoMemory> {
+// A sum of so many terms of 32 bytes each.
+fn long_sum(alloc: Global, count: u32) -> Result<Vec<u8>, NoMemory> {
     let mut out = Vec::new(alloc);
-    for _k in 0..520_000 {
+    for _k in 0..count {
         out.extend_from_slice(b"+ 0000000000000000000001234567*a")?;
     }
     Ok(out)
 }
 
-// A product with a million formal terms.
-fn product(alloc: Global) -> Result<Vec<u8>, NoMemory> {
+// A product of two sums of so many terms.
+fn product(alloc: Global, count: u32) -> Result<Vec<u8>, NoMemory> {
     let mut out = Vec::new(alloc);
     let mut seed = 1;
-    push_sum(&mut out, &mut seed)?;
+    push_sum(&mut out, count, &mut seed)?;
     out.push(b'*')?;
-    push_sum(&mut out, &mut seed)?;
+    push_sum(&mut out, count, &mut seed)?;
     Ok(out)
 }
 
-// A sum of 1,000 terms in four variables, in parentheses.
-fn push_sum(out: &mut Vec<u8>, seed: &mut u32) -> Result<(), NoMemory> {
+// A sum of so many terms in four variables, in parentheses.
+fn push_sum(out: &mut Vec<u8>, count: u32, seed: &mut u32) -> Result<(), NoMemory> {
     out.push(b'(')?;
-    for _k in 0..1000 {
+    for _k in 0..count {
         push_term(out, seed)?;
     }
     out.push(b')')?;
