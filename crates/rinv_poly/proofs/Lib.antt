@@ -13,6 +13,7 @@ pub mod Descends
 pub mod Summands
 pub mod Unique
 pub mod Merging
+pub mod Existence
 pub mod Scaling
 pub mod Moving
 pub mod Cancelling

@@ -1,10 +1,12 @@
-//! Times of products and sums of polynomials over GF(32003), where the word `measure` asks for them.
+//! Times of products and sums of polynomials over GF(32003), and of reading texts, where the word `measure` asks for them.
 #![tactic(auto)]
 
 ghost use Rattle.std.specs.Prelude.{◌≡◌, ◌<◌, length, All, IfOk, nat_lt};
 ghost use Rattle.rinv_algebra.specs.Residue.{residue_ops};
 ghost use Rattle.rinv_algebra.specs.Normal.{IsNormal};
 ghost use Rattle.rinv_poly.specs.Terms.{IsTerm};
+
+mod texts;
 
 use rinv_mono::Mono;
 use rinv_poly::{KPoly, PolyRing};
@@ -32,7 +34,7 @@ fn main(rt: HostRuntime) -> anyhow::Result<()> {
         sum(&rt, rt.alloc(), field, 10000)?;
         sum(&rt, rt.alloc(), field, 100000)?;
     }
-    Ok(())
+    texts::measure(&rt, rt.alloc())
 }
 
 // The product of two polynomials of 1,000 terms.

@@ -9,16 +9,11 @@ use Rattle.rinv_algebra.specs.Polynomial.{Term, Polynomial, poly_ops}
 use Rattle.rinv_algebra.proofs.PolynomialLaws.{poly_laws}
 use Rattle.rinv_sub.proofs.Sums.{take-at}
 use Rattle.rinv_poly.proofs.Units.{term-same_monomial}
+use Rattle.rinv_poly.proofs.Existence.{same_monomial-zeros}
 
 -- a term with so many zeros behind its exponents
 abbrev pub padded : {E : Type 0} → ℕ → Term E → Term E
 padded z t = (t.0 ++ replicate z 0, t.1)
-
-pub same_monomial-zeros : (m : List ℕ) (z : ℕ) → same_monomial (m ++ replicate z 0) m ≡ true
-unfolding same_monomial
-same_monomial-zeros [] zero = refl
-same_monomial-zeros [] (suc z) = same_monomial-zeros [] z
-same_monomial-zeros (x ∷ m) z = and_true (x == x) _ (eq-eqb x x refl) (same_monomial-zeros m z)
 
 -- the terms with zeros behind their exponents are the same polynomial
 pub padded-same : {E : Type 0} (o : RingOps E) (l : RingLaws o) (z : ℕ) (f : Polynomial E) → IsSame (poly_ops o) (map (padded z) f) f

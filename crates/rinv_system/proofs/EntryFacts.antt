@@ -63,8 +63,3 @@ entries_left (Some rest) = entries_of rest
 abbrev pub bytes_left : Option (List ℕ) → ℕ
 bytes_left None = 0
 bytes_left (Some rest) = length rest + 1
-
--- one entry more has come
-pub entries_left-step : (all found next : List (List ℕ)) (bytes entry : List ℕ) (left : Option (List ℕ)) → entries_of bytes ≡ entry ∷ entries_left left → next ≡ found ++ entry ∷ []
-    → found ++ entries_of bytes ≡ all → next ++ entries_left left ≡ all
-entries_left-step all found next bytes entry left split is h = ap (λ n. n ++ entries_left left) is ∙ append_assoc found (entry ∷ []) (entries_left left) ∙ ap (λ e. found ++ e) (sym split) ∙ h

@@ -1,10 +1,9 @@
 -- The system that a text denotes has the form of a system.
-use Rattle.std.proofs.Common.{◌≡◌, ℕ, ◌+◌, ◌*◌, List, [], length, Bool, true, false, ◌&&◌, ◌==◌, IsTrue, nat_lt, nat_le, Option, Some, None, unwrap_or, ◌≤◌, refl, sym, ap, subst, ◌∙◌, arith}
+use Rattle.std.proofs.Common.{◌≡◌, ℕ, ◌+◌, ◌*◌, List, [], length, Bool, true, false, ◌&&◌, ◌==◌, IsTrue, nat_lt, nat_le, Option, Some, None, unwrap_or, ◌≤◌, refl, sym, subst, arith}
 use Rattle.std.specs.List.{list_all}
 use Rattle.std.specs.Option.{IfSome, is_some}
 use Rattle.std.proofs.lemmas.Bool.Decides.{nat_tests}
 use Rattle.rinv_algebra.proofs.Same.{both, and_true}
-use Rattle.rinv_defs.specs.System.{Poly, System}
 use Rattle.rinv_defs.specs.SystemForm.{IsSystem}
 use Rattle.rinv_defs.specs.Names.{is_between, are_names}
 use Rattle.rinv_text.specs.Told.{Told}

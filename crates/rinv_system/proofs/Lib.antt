@@ -20,6 +20,7 @@ pub mod Verdicts
 pub mod OneDraft
 pub mod OneNext
 pub mod OneText
+pub mod SomeOutcome
 pub mod OneOutcome
 mod WrittenLists
 mod SystemFacts

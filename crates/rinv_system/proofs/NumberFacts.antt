@@ -1,8 +1,6 @@
 -- The number that decimal digits write, digit by digit.
-use Rattle.std.proofs.Common.{Bool, true, false, ◌≡◌, ◌⊎◌, ◌↔◌, Result, Ok, Err, inl, inr, IsTrue, IsFalse, ℕ, ◌+◌, ◌-◌, ◌*◌, ◌≤◌, ◌<◌, ◌^◌, List, [], ◌∷◌, take, drop, length, get_or, fold, refl, sym, ap, subst, ◌∙◌, arith}
-use Rattle.std.proofs.lemmas.List.{take_more, take-append-drop}
+use Rattle.std.proofs.Common.{Bool, true, false, ◌≡◌, ◌⊎◌, ◌↔◌, Result, Ok, Err, inl, inr, IsTrue, IsFalse, ℕ, ◌≤◌, ◌<◌, ◌^◌, List, refl, sym, subst, ◌∙◌, arith}
 use Rattle.std.proofs.lemmas.Bool.{cases_lt}
-use Rattle.std.proofs.lemmas.List.Sums.{fold-append}
 use Rattle.std.specs.Result.{OkIff, IsErrOf, result_unwrap_or}
 use Rattle.rinv_algebra.specs.Residue.{is_listed}
 use Rattle.rinv_ring.specs.declared.modulus.FieldFault.{FieldFault}
@@ -15,22 +13,6 @@ use Rattle.rinv_system.specs.declared.refused.Code.TheVariants.{Field as InField
 use Rattle.rinv_system.specs.Entries.{is_numeral}
 use Rattle.rinv_system.specs.Drafts.{Draft}
 use Rattle.rinv_system.specs.Forms.{IsRestRefused, IsFieldFault, TellsNumber}
-
--- a digit more
-pub number_of-step : (digits : List ℕ) (k : ℕ) → k < length digits → number_of (take (k + 1) digits) ≡ number_of (take k digits) * 10 + (get_or digits k 0 - 48)
-number_of-step digits k lt = ap number_of (take_more digits k 0 lt) ∙ fold-append (λ (n : ℕ) (b : ℕ). n * 10 + (b - 48)) 0 (take k digits) (get_or digits k 0 ∷ [])
-
-grows : (digits : List ℕ) (n : ℕ) → n ≤ fold (λ n b. n * 10 + (b - 48)) n digits
-grows [] n = omega arith
-grows (b ∷ bs) n = let ih : n * 10 + (b - 48) ≤ fold (λ n b. n * 10 + (b - 48)) (n * 10 + (b - 48)) bs = grows bs (n * 10 + (b - 48)) in omega (arith, ih)
-
--- a front is no greater
-pub number_of-front : (digits : List ℕ) (k : ℕ) → number_of (take k digits) ≤ number_of digits
-number_of-front digits k = subst (λ n. number_of (take k digits) ≤ n) (sym (ap number_of (sym (take-append-drop k digits)) ∙ fold-append (λ (n : ℕ) (b : ℕ). n * 10 + (b - 48)) 0 (take k digits) (drop k digits))) (grows (drop k digits) (number_of (take k digits)))
-
--- a front with a digit more that is too great
-pub number_of-past : (digits : List ℕ) (k number bound least : ℕ) → k < length digits → number ≡ number_of (take k digits) → least ≤ number * 10 + (get_or digits k 0 - 48) → ¬ (least < bound) → bound ≤ number_of digits
-number_of-past digits k number bound least lt is le past = let step : number_of (take (k + 1) digits) ≡ number * 10 + (get_or digits k 0 - 48) = number_of-step digits k lt ∙ ap (λ n. n * 10 + (get_or digits k 0 - 48)) (sym is) in omega (arith, step, number_of-front digits (k + 1), past)
 
 -- the refusals of a number that has a limit
 abbrev pub IsPast : ℕ → List ℕ → TextCode → Type 0

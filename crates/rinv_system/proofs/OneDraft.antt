@@ -1,15 +1,11 @@
 -- Lines make one draft at most, and are refused at one place at most.
-use Rattle.std.proofs.Common.{◌≡◌, ◌⊎◌, inl, inr, ℕ, suc, ◌+◌, ◌<◌, ◌≤◌, List, [], ◌∷◌, ◌++◌, length, map, Bool, true, false, nat_lt, IsTrue, Option, Some, None, if◌then◌else◌, refl, sym, ap, subst, ◌∙◌, arith, length-append}
-use Rattle.rinv_algebra.specs.Residue.{is_listed, residue_ops}
-use Rattle.rinv_algebra.specs.Polynomial.{coefficient}
-use Rattle.rinv_defs.specs.System.{Poly}
+use Rattle.std.proofs.Common.{◌≡◌, ℕ, List, [], ◌∷◌, Option, Some, None, refl, sym, ap, ◌∙◌}
 use Rattle.rinv_system.specs.declared.keyword.Keyword.{Keyword}
 use Rattle.rinv_system.specs.declared.refused.Code.{Code}
 use Rattle.rinv_system.specs.declared.refused.Code.TheVariants.{Word}
 use Rattle.rinv_system.specs.Words.{head_of}
-use Rattle.rinv_system.specs.Drafts.{Draft, blank, modulus, names_for, order_fault}
-use Rattle.rinv_system.specs.Forms.{AreEntries, IsEntry, TellsNumber, TellsNames, TellsPolynomials, IsRestTaken, IsRestRefused, with_polynomials}
-use Rattle.rinv_system.specs.Texts.{IsLineTaken, IsLineRefused, AreTaken}
+use Rattle.rinv_system.specs.Drafts.{Draft, order_fault}
+use Rattle.rinv_system.specs.Texts.{IsLineTaken, IsLineRefused}
 use Rattle.rinv_system.proofs.Verdicts.{rest_fault, refused-rest, taken-rest}
 
 -- the first, or else the second

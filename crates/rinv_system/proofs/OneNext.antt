@@ -1,5 +1,5 @@
 -- A line that is taken makes one draft.
-use Rattle.std.proofs.Common.{◌≡◌, ℕ, List, [], ◌∷◌, length, Option, Some, None, IsTrue, refl, sym, ap, ap₂, subst, ◌∙◌}
+use Rattle.std.proofs.Common.{◌≡◌, ℕ, List, ◌∷◌, length, Option, Some, None, IsTrue, refl, sym, ap, ap₂, subst, ◌∙◌}
 use Rattle.rinv_algebra.specs.Residue.{is_listed, residue_ops}
 use Rattle.rinv_algebra.proofs.ResidueLaws.{residue_laws}
 use Rattle.rinv_defs.specs.System.{Poly}
@@ -10,7 +10,6 @@ use Rattle.rinv_poly.proofs.Residues.{equal-normal}
 use Rattle.rinv_text.specs.Reading.{value}
 use Rattle.rinv_text.proofs.OneReading.{has_one_reading}
 use Rattle.rinv_system.specs.declared.keyword.Keyword.{Keyword}
-use Rattle.rinv_system.specs.Words.{head_of}
 use Rattle.rinv_system.specs.Entries.{entries_of}
 use Rattle.rinv_system.specs.Drafts.{Draft, modulus, names_for}
 use Rattle.rinv_system.specs.Forms.{AreEntries, IsEntry, TellsNumber, TellsNames, TellsPolynomials, IsRestTaken, with_polynomials}

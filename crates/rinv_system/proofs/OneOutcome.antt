@@ -1,5 +1,5 @@
--- A text has one system at most, and one refusal at most, and not both.
-use Rattle.std.proofs.Common.{◌≡◌, ◌⊎◌, inl, inr, ℕ, suc, ◌+◌, List, [], ◌∷◌, ◌++◌, length, Bool, true, false, Option, Some, None, refl, sym, ap, ap₂, subst, ◌∙◌, get_or, drop}
+-- A text has one system or one refusal, and not both.
+use Rattle.std.proofs.Common.{◌≡◌, ◌⊎◌, inl, inr, ℕ, ◌+◌, List, [], ◌∷◌, ◌++◌, length, true, false, Some, None, refl, sym, ap, ap₂, subst, ◌∙◌, get_or, drop}
 use Rattle.rinv_text.specs.Told.{Told}
 use Rattle.rinv_system.specs.declared.refused.Code.{Code}
 use Rattle.rinv_system.specs.declared.refused.Code.TheVariants.{NotText}
@@ -9,6 +9,7 @@ use Rattle.rinv_system.specs.Texts.{AreTaken, IsLineTaken, IsLineRefused, IsSyst
 use Rattle.rinv_system.specs.OneSystem.{HasOneSystem}
 use Rattle.rinv_system.proofs.OneDraft.{one-code, not-taken}
 use Rattle.rinv_system.proofs.OneText.{one-draft, line-taken}
+use Rattle.rinv_system.proofs.SomeOutcome.{has_outcome}
 
 some-none : {A B : Type 0} {x : A} → Some x ≡ None → B
 some-none {x = x} e = absurd (let f : Some x ≡ None = e in cc)
@@ -68,4 +69,4 @@ module _ (text : List ℕ) where
           (one-code e line' a b (subst (λ x. IsLineRefused x line' a) drafts (subst (λ x. IsLineRefused d x a) g r)) r')
 
   pub has_one_system : HasOneSystem text
-  has_one_system = record { one_system = one-system; one_refusal = one-refusal; not_both = not-both }
+  has_one_system = record { one_system = one-system; one_refusal = one-refusal; not_both = not-both; read_or_refused = has_outcome text }

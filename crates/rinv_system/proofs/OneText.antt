@@ -1,14 +1,13 @@
 -- A text has one system at most, and one refusal at most, and not both.
-use Rattle.std.proofs.Common.{◌≡◌, ◌⊎◌, inl, inr, ℕ, suc, ◌+◌, ◌<◌, ◌≤◌, List, [], ◌∷◌, ◌++◌, length, take, Bool, true, false, IsTrue, Option, Some, None, refl, sym, ap, subst, ◌∙◌, append_assoc, append-nil, arith, length-append, reverse, drop, get_or}
+use Rattle.std.proofs.Common.{◌≡◌, ◌⊎◌, inl, inr, ℕ, suc, List, [], ◌∷◌, ◌++◌, length, IsTrue, refl, sym, ap, subst, ◌∙◌, append_assoc, append-nil, arith, length-append, reverse, drop, get_or}
 use Rattle.std.proofs.lemmas.List.{reverse-append, reverse-reverse}
-use Rattle.std.proofs.lemmas.Bool.{cases_lt}
 use Rattle.rinv_algebra.specs.Residue.{is_listed}
 use Rattle.rinv_system.specs.Drafts.{Draft, blank, modulus}
 use Rattle.rinv_system.specs.Texts.{IsLineTaken, AreTaken}
-use Rattle.rinv_system.proofs.Good.{IsGood, HasForm, AreTaken-good}
+use Rattle.rinv_system.proofs.Good.{IsGood, AreTaken-good}
 use Rattle.rinv_system.proofs.OneNext.{one-next}
 
-good-listed : {d : Draft} → IsGood d → IsTrue (is_listed (modulus d))
+pub good-listed : {d : Draft} → IsGood d → IsTrue (is_listed (modulus d))
 good-listed IsGood.start = refl
 good-listed (IsGood.with_field p listed) = listed
 good-listed (IsGood.with_group p group listed names) = listed

@@ -1,13 +1,13 @@
 -- The parts of a system in its form.
-use Rattle.std.proofs.Common.{◌≡◌, ℕ, ◌+◌, ◌*◌, ◌≤◌, List, [], ◌∷◌, length, Bool, true, false, ◌&&◌, ◌==◌, nat_lt, nat_le, IsTrue, All, arith, subst, sym}
+use Rattle.std.proofs.Common.{◌≡◌, ℕ, ◌+◌, ◌*◌, ◌≤◌, List, [], ◌∷◌, length, Bool, true, ◌&&◌, ◌==◌, nat_lt, nat_le, IsTrue, All, subst, sym}
 use Rattle.std.specs.List.{list_all}
 use Rattle.std.proofs.lemmas.Bool.{eqb-true, leb-true}
 use Rattle.std.proofs.lemmas.List.Elements.{All-nil, All-cons, All-weaker}
 use Rattle.rinv_algebra.specs.Residue.{is_listed, residue_ops}
-use Rattle.rinv_algebra.specs.Normal.{IsNormal, is_normal}
+use Rattle.rinv_algebra.specs.Normal.{IsNormal}
 use Rattle.rinv_algebra.proofs.Same.{both}
 use Rattle.rinv_poly.proofs.Forms.{IsNormalTerm, ordered-from_normal}
-use Rattle.rinv_defs.specs.System.{System, Poly, group_count, space_count}
+use Rattle.rinv_defs.specs.System.{System, Poly, space_count}
 use Rattle.rinv_defs.specs.SystemForm.{IsSystem, is_good, are_good, system_parts}
 use Rattle.rinv_defs.specs.Names.{is_between, are_names}
 use Rattle.rinv_text.specs.Told.{Told}

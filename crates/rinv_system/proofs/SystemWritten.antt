@@ -1,10 +1,10 @@
 -- The lines of a system's parts, put behind one another.
-use Rattle.std.proofs.Common.{◌≡◌, ℕ, ◌+◌, ◌*◌, ◌==◌, false, List, [], ◌∷◌, ◌++◌, length, codes, map, All, refl, sym, ap, subst, ◌∙◌, append_assoc, append-nil, length-append}
+use Rattle.std.proofs.Common.{◌≡◌, ℕ, ◌+◌, ◌*◌, ◌==◌, false, List, [], ◌∷◌, ◌++◌, length, codes, All, refl, sym, ap, subst, ◌∙◌, append_assoc, length-append}
 use Rattle.rinv_defs.specs.System.{System, Poly}
 use Rattle.rinv_text.specs.Names.{copies}
 use Rattle.rinv_text.specs.Told.{Told}
-use Rattle.rinv_system.specs.Written.{list_text, numbers_text, polynomials_text, line_text, first_lines, ideal_lines, map_lines, budget_lines, text_of, system_text}
-use Rattle.rinv_system.specs.Writing.{AreOver, WhereAllStored, AppendsPolynomials, AppendsPolynomialsLine}
+use Rattle.rinv_system.specs.Written.{numbers_text, polynomials_text, line_text, first_lines, ideal_lines, product_line, inverse_line, action_line, map_lines, budget_lines, text_of, system_text}
+use Rattle.rinv_system.specs.Writing.{AreOver, AppendsPolynomialsLine}
 use Rattle.rinv_system.proofs.GoodLists.{length-two_copies}
 use Rattle.rinv_system.proofs.SystemFacts.{HasParts, AreNormal, over-stored}
 use Rattle.rinv_system.proofs.WrittenLists.{line-more, lines-more, no-line}
@@ -36,24 +36,23 @@ module _ (s : System) (form : HasParts s) where
   at-names word names names' fs v old new is count normal h =
       subst (λ ns. AppendsPolynomialsLine word ns fs old new) is h s.p form.listed (subst (λ n. AreNormal s.p n fs) (sym count) normal)
 
-  pub map-lines : (old o1 o2 o3 new : List ℕ) (factors both : List (List ℕ)) → factors ≡ copies 2 s.group → both ≡ s.group ++ s.space
-      → o1 ≡ old ++ (line_text (codes "unit") (numbers_text s.unit) ++ codes "\n")
-      → AppendsPolynomialsLine (codes "product") factors s.product o1 o2
-      → AppendsPolynomialsLine (codes "inverse") s.group s.inverse o2 o3
-      → AppendsPolynomialsLine (codes "action") both s.action o3 new
-      → new ≡ old ++ text_of (map_lines s)
-  map-lines old o1 o2 o3 new factors both is_factors is_both unit product inverse action =
-      let a : List ℕ = line_text (codes "unit") (numbers_text s.unit) in
-      let b : List ℕ = line_text (codes "product") (polynomials_text s.p (copies 2 s.group) s.product) in
-      let c : List ℕ = line_text (codes "inverse") (polynomials_text s.p s.group s.inverse) in
-      let d : List ℕ = line_text (codes "action") (polynomials_text s.p (s.group ++ s.space) s.action) in
-      line-more old o3 new d (a ∷ b ∷ c ∷ [])
-      (line-more old o2 o3 c (a ∷ b ∷ [])
-      (line-more old o1 o2 b (a ∷ [])
-      (line-more old old o1 a [] (no-line old old refl) unit)
-      (at-names (codes "product") factors (copies 2 s.group) s.product (2 * length s.group) o1 o2 is_factors (length-two_copies s.group) form.product product))
-      (inverse s.p form.listed form.inverse))
-      (at-names (codes "action") both (s.group ++ s.space) s.action (length s.group + length s.space) o3 new is_both (length-append s.group s.space) form.action action)
+  pub product-line : (old new : List ℕ) (factors : List (List ℕ)) → factors ≡ copies 2 s.group → AppendsPolynomialsLine (codes "product") factors s.product old new → new ≡ old ++ (product_line s ++ codes "\n")
+  product-line old new factors is h = at-names (codes "product") factors (copies 2 s.group) s.product (2 * length s.group) old new is (length-two_copies s.group) form.product h
+
+  pub inverse-line : (old new : List ℕ) → AppendsPolynomialsLine (codes "inverse") s.group s.inverse old new → new ≡ old ++ (inverse_line s ++ codes "\n")
+  inverse-line old new h = h s.p form.listed form.inverse
+
+  pub action-line : (old new : List ℕ) (both : List (List ℕ)) → both ≡ s.group ++ s.space → AppendsPolynomialsLine (codes "action") both s.action old new → new ≡ old ++ (action_line s ++ codes "\n")
+  action-line old new both is h = at-names (codes "action") both (s.group ++ s.space) s.action (length s.group + length s.space) old new is (length-append s.group s.space) form.action h
+
+-- four lines
+pub map-lines : (s : System) (old o1 o2 o3 new : List ℕ) → o1 ≡ old ++ (line_text (codes "unit") (numbers_text s.unit) ++ codes "\n") → o2 ≡ o1 ++ (product_line s ++ codes "\n") → o3 ≡ o2 ++ (inverse_line s ++ codes "\n")
+    → new ≡ o3 ++ (action_line s ++ codes "\n") → new ≡ old ++ text_of (map_lines s)
+map-lines s old o1 o2 o3 new unit product inverse action =
+    let a : List ℕ = line_text (codes "unit") (numbers_text s.unit) in
+    line-more old o3 new (action_line s) (a ∷ product_line s ∷ inverse_line s ∷ [])
+    (line-more old o2 o3 (inverse_line s) (a ∷ product_line s ∷ [])
+    (line-more old o1 o2 (product_line s) (a ∷ []) (line-more old old o1 a [] (no-line old old refl) unit) product) inverse) action
 
 -- all lines, where t is what is seen of u
 pub all-lines : (t u : Told) (o0 o1 o2 o3 o4 new : List ℕ) → t ≡ u → o0 ≡ [] → o1 ≡ o0 ++ text_of (first_lines u.system) → o2 ≡ o1 ++ text_of (ideal_lines u.system) → o3 ≡ o2 ++ text_of (map_lines u.system)

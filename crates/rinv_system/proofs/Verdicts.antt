@@ -1,5 +1,5 @@
 -- How the rest of a line is refused, as a function of the rest.
-use Rattle.std.proofs.Common.{◌≡◌, ◌⊎◌, inl, inr, ℕ, ◌+◌, ◌<◌, ◌≤◌, ◌^◌, List, [], ◌∷◌, ◌++◌, length, Bool, true, false, ◌&&◌, nat_lt, nat_le, IsTrue, IsFalse, Option, Some, None, if◌then◌else◌, refl, sym, ap, subst, ◌∙◌, append_assoc, arith}
+use Rattle.std.proofs.Common.{◌≡◌, ◌⊎◌, inl, inr, ℕ, ◌<◌, List, [], ◌∷◌, ◌++◌, length, Bool, true, false, ◌&&◌, nat_lt, nat_le, IsTrue, Option, Some, None, if◌then◌else◌, refl, sym, ap, ◌∙◌, append_assoc, arith}
 use Rattle.std.specs.List.{All, Any, list_all}
 use Rattle.std.proofs.lemmas.Bool.Decides.{nat_tests}
 use Rattle.rinv_algebra.specs.Residue.{is_listed}
@@ -7,18 +7,17 @@ use Rattle.rinv_defs.specs.Names.{are_names}
 use Rattle.rinv_ring.specs.declared.modulus.FieldFault.TheVariants.{TooSmall, TooLarge, NotListed}
 use Rattle.rinv_text.specs.declared.fault.TextCode.TheVariants.{Expression, Name, Limit}
 use Rattle.rinv_text.specs.Tokens.{number_of}
-use Rattle.rinv_text.specs.Names.{is_new_name}
 use Rattle.rinv_text.proofs.NamesInTurn.{are_names-push, are_names-front}
 use Rattle.rinv_system.specs.declared.keyword.Keyword.{Keyword}
-use Rattle.rinv_system.specs.declared.keyword.Keyword.TheVariants.{Field, Group, Space, Ideal, Unit as AtUnit, Product, Inverse, Action, Pairs, Steps}
+use Rattle.rinv_system.specs.declared.keyword.Keyword.TheVariants.{Field, Group, Space, Pairs, Steps}
 use Rattle.rinv_system.specs.declared.refused.Code.{Code}
 use Rattle.rinv_system.specs.declared.refused.Code.TheVariants.{Field as InField, Text}
 use Rattle.rinv_system.specs.Entries.{entries_of, words_of, is_name_word, is_numeral}
 use Rattle.rinv_system.specs.Drafts.{Draft, group_names, names_for, length_fault}
-use Rattle.rinv_system.specs.Forms.{IsFieldFault, HasOldName, AreNewNames, AreEntries, IsSomeExpression, IsFirstFault, TellsNumber, TellsNames, TellsPolynomials, IsRestRefused, IsRestTaken, is_number_for, max_pairs, max_steps}
+use Rattle.rinv_system.specs.Forms.{IsFieldFault, HasOldName, IsSomeExpression, TellsNumber, TellsNames, TellsPolynomials, IsRestRefused, IsRestTaken, is_number_for, max_pairs, max_steps}
 use Rattle.rinv_system.proofs.GoodNames.{AreNewNames-form, new-swapped}
 use Rattle.rinv_system.proofs.ListFacts.{AreEntries-accepted}
-use Rattle.rinv_system.proofs.FirstFaults.{IsAccepted, all_decided, not_all, first_fault, first-is, none-first}
+use Rattle.rinv_system.proofs.FirstFaults.{all_decided, not_all, first_fault, first-is, none-first}
 
 -- the first, or else the second
 abbrev or_else : Option Code → Option Code → Option Code

@@ -1,9 +1,8 @@
 -- Written lists are split at their commas again.
-use Rattle.std.proofs.Common.{◌≡◌, ℕ, suc, ◌+◌, List, [], ◌∷◌, ◌++◌, append_assoc, append-nil, length, map, reverse, drop, codes, refl, sym, ap, ◌∙◌, subst, Bool, true, false, not, ◌&&◌, ◌||◌, ◌==◌, if◌then◌else◌, arith}
+use Rattle.std.proofs.Common.{◌≡◌, ℕ, List, [], ◌∷◌, ◌++◌, append-nil, map, codes, refl, sym, ap, ◌∙◌, subst, true, false, ◌==◌, arith}
 use Rattle.std.specs.Prelude.{flat_map}
-use Rattle.std.specs.List.{list_all, position_or_len}
+use Rattle.std.specs.List.{list_all}
 use Rattle.std.proofs.lemmas.Bool.Decides.{nat_tests}
-use Rattle.std.proofs.lemmas.List.{reverse-append, reverse-reverse}
 use Rattle.rinv_algebra.proofs.Same.{both}
 use Rattle.rinv_text.proofs.PrintedBytes.{is_printed, IsSolid}
 use Rattle.rinv_system.specs.Lines.{is_blank, from_word, to_last_word, onto_first}

@@ -4,7 +4,6 @@ use Rattle.std.proofs.lemmas.Bool.Decides.{nat_tests}
 use Rattle.std.proofs.lemmas.List.{take_more, length-map, get_or-map}
 use Rattle.std.proofs.lemmas.List.Elements.{All-get_or}
 use Rattle.std.proofs.lemmas.Grind.{flat_map-append}
-use Rattle.rinv_defs.specs.Text.{join}
 use Rattle.rinv_text.specs.Pieces.{is_nil}
 use Rattle.rinv_text.proofs.Joined.{join-push}
 use Rattle.rinv_system.specs.Written.{list_text, text_of}

@@ -1,5 +1,5 @@
 -- What follows the word of a written line is taken for what was written.
-use Rattle.std.proofs.Common.{◌≡◌, ℕ, suc, ◌+◌, ◌*◌, ◌%◌, ◌<◌, ◌≤◌, ◌^◌, List, [], ◌∷◌, ◌++◌, length, map, codes, decimal, refl, sym, ap, ◌∙◌, subst, Bool, true, false, not, ◌&&◌, ◌==◌, nat_lt, nat_le, bytes_eq, All, IsTrue, None, if◌then◌else◌, inl, inr, arith}
+use Rattle.std.proofs.Common.{◌≡◌, ℕ, suc, ◌%◌, ◌<◌, ◌≤◌, ◌^◌, List, [], ◌∷◌, length, map, decimal, refl, sym, ap, ◌∙◌, subst, Bool, true, false, ◌==◌, nat_lt, All, IsTrue, if◌then◌else◌, inl, inr, arith}
 use Rattle.std.specs.List.{list_all}
 use Rattle.std.proofs.Math.Nat.{mod-eq_of_lt}
 use Rattle.std.proofs.lemmas.Bool.{cases_Bool, eqb-true, ltb-true}
@@ -8,26 +8,25 @@ use Rattle.std.proofs.lemmas.List.Elements.{All-head, All-tail}
 use Rattle.std.proofs.lemmas.List.{length-map}
 use Rattle.rinv_algebra.specs.Ring.{IsSame}
 use Rattle.rinv_algebra.specs.Residue.{is_listed, modulus_of, residue_ops}
-use Rattle.rinv_algebra.specs.Polynomial.{poly_ops, constant, coefficient}
+use Rattle.rinv_algebra.specs.Polynomial.{constant, coefficient}
 use Rattle.rinv_algebra.specs.Normal.{IsNormal, descends}
 use Rattle.rinv_algebra.specs.Monomial.{same_monomial}
 use Rattle.rinv_algebra.proofs.Same.{both}
 use Rattle.rinv_algebra.proofs.ResidueLaws.{residue_laws, modulus_of_listed}
-use Rattle.rinv_poly.proofs.Gather.{same-refl, same-back, term-zero}
+use Rattle.rinv_poly.proofs.Gather.{same-back, term-zero}
 use Rattle.rinv_poly.proofs.Units.{nil-normal}
 use Rattle.rinv_defs.specs.System.{Poly}
 use Rattle.rinv_defs.specs.Text.{poly_text}
 use Rattle.rinv_text.specs.Grammar.{expression}
 use Rattle.rinv_text.specs.Tokens.{number_of}
-use Rattle.rinv_text.specs.Stops.{Denotes}
 use Rattle.rinv_text.specs.Printable.{AreWords, IsWithinLimits}
-use Rattle.rinv_text.proofs.PrintedTokens.{IsNumberText, decimal-number}
-use Rattle.rinv_text.proofs.PrintedBytes.{IsSolid, number-solid, word-solid}
-use Rattle.rinv_text.proofs.PrintedPhrases.{Phrase, number-phrase, phrase-same, as-factor, as-term, as-expression, phrase-denotes, phrase-behind}
+use Rattle.rinv_text.proofs.PrintedTokens.{decimal-number}
+use Rattle.rinv_text.proofs.PrintedBytes.{IsSolid, number-solid}
+use Rattle.rinv_text.proofs.PrintedPhrases.{number-phrase, phrase-same, as-factor, as-term, as-expression, phrase-denotes, phrase-behind}
 use Rattle.rinv_text.proofs.PrintedSums.{IsPrintedText, printed-text}
 use Rattle.rinv_system.specs.Entries.{entries_of, is_numeral}
-use Rattle.rinv_system.specs.Forms.{IsEntry, AreEntries}
-use Rattle.rinv_system.specs.Written.{list_text, polynomials_text, numbers_text}
+use Rattle.rinv_system.specs.Forms.{AreEntries}
+use Rattle.rinv_system.specs.Written.{list_text}
 use Rattle.rinv_system.proofs.SystemFacts.{AreNormal}
 use Rattle.rinv_system.proofs.WrittenEntries.{AreSolid, behind_blanks, list-entries}
 use Rattle.rinv_system.proofs.WrittenLines.{IsLineText, list-line, solid-line}

@@ -1,22 +1,19 @@
 -- The text of a written system is read as that system.
-use Rattle.std.proofs.Common.{◌≡◌, ℕ, suc, ◌+◌, ◌*◌, ◌<◌, ◌≤◌, ◌^◌, List, [], ◌∷◌, ◌++◌, length, map, codes, decimal, refl, sym, ap, ◌∙◌, subst, Bool, true, false, ◌&&◌, ◌==◌, nat_lt, nat_le, IsTrue, Option, Some, None, unwrap_or, if◌then◌else◌, inl, inr, arith, length-append, All}
-use Rattle.std.specs.List.{list_all}
+use Rattle.std.proofs.Common.{◌≡◌, ℕ, suc, ◌<◌, ◌≤◌, ◌^◌, List, [], ◌∷◌, ◌++◌, length, map, codes, decimal, refl, sym, ap, ◌∙◌, subst, Bool, true, false, ◌==◌, nat_le, IsTrue, Option, Some, None, unwrap_or, if◌then◌else◌, inl, inr, arith, length-append}
 use Rattle.std.proofs.lemmas.Bool.{cases_Bool, eqb-true}
 use Rattle.std.proofs.lemmas.Bool.Decides.{nat_tests}
 use Rattle.std.proofs.lemmas.List.{length-map}
-use Rattle.rinv_algebra.specs.Residue.{is_listed, residue_ops}
-use Rattle.rinv_algebra.specs.Polynomial.{coefficient}
+use Rattle.rinv_algebra.specs.Residue.{is_listed}
 use Rattle.rinv_defs.specs.System.{System, Poly}
-use Rattle.rinv_defs.specs.Names.{is_between, are_names}
+use Rattle.rinv_defs.specs.Names.{is_between}
 use Rattle.rinv_defs.specs.Text.{poly_text}
 use Rattle.rinv_text.specs.Told.{Told}
 use Rattle.rinv_text.specs.Names.{copies}
-use Rattle.rinv_text.specs.Printable.{AreWords, IsWithinLimits}
-use Rattle.rinv_system.specs.declared.keyword.Keyword.{Keyword}
+use Rattle.rinv_text.specs.Printable.{AreWords}
 use Rattle.rinv_system.specs.declared.keyword.Keyword.TheVariants.{Field, Group, Space, Ideal, Unit as AtUnit, Product, Inverse, Action, Pairs, Steps}
-use Rattle.rinv_system.specs.Drafts.{Draft, blank, is_whole}
+use Rattle.rinv_system.specs.Drafts.{Draft, blank}
 use Rattle.rinv_system.specs.Entries.{words_of}
-use Rattle.rinv_system.specs.Forms.{IsRestTaken, TellsNumber, TellsNames, TellsPolynomials, with_polynomials}
+use Rattle.rinv_system.specs.Forms.{IsRestTaken, TellsNumber, TellsNames, TellsPolynomials}
 use Rattle.rinv_system.specs.Texts.{AreTaken, IsSystemText, told_by}
 use Rattle.rinv_system.specs.Written.{list_text, numbers_text, polynomials_text, line_text, first_lines, ideal_lines, map_lines, budget_lines, written_lines, system_text, IsWritable}
 use Rattle.rinv_system.proofs.GoodLists.{length-two_copies}

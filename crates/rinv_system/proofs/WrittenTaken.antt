@@ -1,30 +1,20 @@
 -- The lines of a written system are taken, and tell the system.
-use Rattle.std.proofs.Common.{◌≡◌, ℕ, suc, ◌+◌, ◌*◌, ◌<◌, ◌≤◌, ◌^◌, List, [], ◌∷◌, ◌++◌, append_assoc, append-nil, length, map, codes, decimal, refl, sym, ap, ◌∙◌, subst, Bool, true, false, ◌&&◌, ◌==◌, nat_lt, nat_le, IsTrue, Option, Some, None, unwrap_or, if◌then◌else◌, inl, inr, arith, length-append, All}
+use Rattle.std.proofs.Common.{◌≡◌, ℕ, suc, ◌<◌, ◌≤◌, ◌^◌, List, [], ◌∷◌, ◌++◌, append_assoc, append-nil, length, decimal, refl, sym, ap, ◌∙◌, subst, true, false, ◌==◌, nat_lt, Some, None, arith}
 use Rattle.std.specs.List.{list_all}
-use Rattle.std.proofs.lemmas.Bool.{cases_Bool, eqb-true}
 use Rattle.std.proofs.lemmas.Bool.Decides.{nat_tests}
-use Rattle.std.proofs.lemmas.List.{length-map}
-use Rattle.rinv_algebra.specs.Residue.{is_listed, residue_ops}
-use Rattle.rinv_algebra.specs.Polynomial.{coefficient}
 use Rattle.rinv_algebra.proofs.Same.{both}
-use Rattle.rinv_defs.specs.System.{System, Poly}
-use Rattle.rinv_defs.specs.Names.{is_between, are_names, is_plain_name}
-use Rattle.rinv_defs.specs.Text.{poly_text}
-use Rattle.rinv_text.specs.Told.{Told}
-use Rattle.rinv_text.specs.Tokens.{number_of}
-use Rattle.rinv_text.specs.Names.{copies}
-use Rattle.rinv_text.specs.Printable.{is_word, AreWords, IsWithinLimits}
-use Rattle.rinv_text.proofs.PrintedBytes.{IsSolid, word-solid}
+use Rattle.rinv_defs.specs.System.{Poly}
+use Rattle.rinv_text.specs.Printable.{is_word}
+use Rattle.rinv_text.proofs.PrintedBytes.{word-solid}
 use Rattle.rinv_system.specs.declared.keyword.Keyword.{Keyword}
-use Rattle.rinv_system.specs.declared.keyword.Keyword.TheVariants.{Field, Group, Space, Ideal, Unit as AtUnit, Product, Inverse, Action, Pairs, Steps}
 use Rattle.rinv_system.specs.Words.{head_of}
-use Rattle.rinv_system.specs.Entries.{entries_of, words_of, is_name_word}
-use Rattle.rinv_system.specs.Drafts.{Draft, blank, modulus, names_for, order_fault, length_fault, at_most, exactly, is_whole}
+use Rattle.rinv_system.specs.Entries.{words_of, is_name_word}
+use Rattle.rinv_system.specs.Drafts.{Draft, modulus, names_for, order_fault, length_fault, at_most, exactly}
 use Rattle.rinv_system.specs.Forms.{IsRestTaken, TellsNumber, TellsNames, TellsPolynomials, AreNewNames, with_number, with_names, with_polynomials, is_number_for}
-use Rattle.rinv_system.specs.Texts.{IsLineTaken, AreTaken, IsSystemText, told_by, contents_of}
-use Rattle.rinv_system.specs.Written.{list_text, line_text, first_lines, ideal_lines, map_lines, budget_lines, written_lines, text_of, system_text, IsWritable}
-use Rattle.rinv_system.proofs.WrittenEntries.{AreSolid, list-words}
-use Rattle.rinv_system.proofs.WrittenLines.{IsLineText, AreLines, word-line, list-line, lines-append, text-contents, text-good}
+use Rattle.rinv_system.specs.Texts.{IsLineTaken, AreTaken}
+use Rattle.rinv_system.specs.Written.{list_text}
+use Rattle.rinv_system.proofs.WrittenEntries.{AreSolid}
+use Rattle.rinv_system.proofs.WrittenLines.{IsLineText}
 use Rattle.rinv_system.proofs.WrittenRests.{AreTexts, number-read, number-numeral, entries-read, entries-count}
 
 some-line : (line : List ℕ) → IsLineText line → ¬ (line ≡ [])

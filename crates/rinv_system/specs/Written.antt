@@ -35,13 +35,17 @@ first_lines s = line_text (codes "field") (decimal s.p) ∷ line_text (codes "gr
 abbrev pub ideal_lines : System → List (List ℕ)
 ideal_lines s = if length s.ideal == 0 then [] else line_text (codes "ideal") (polynomials_text s.p s.group s.ideal) ∷ []
 
+abbrev pub product_line : System → List ℕ
+product_line s = line_text (codes "product") (polynomials_text s.p (copies 2 s.group) s.product)
+
+abbrev pub inverse_line : System → List ℕ
+inverse_line s = line_text (codes "inverse") (polynomials_text s.p s.group s.inverse)
+
+abbrev pub action_line : System → List ℕ
+action_line s = line_text (codes "action") (polynomials_text s.p (s.group ++ s.space) s.action)
+
 abbrev pub map_lines : System → List (List ℕ)
-map_lines s =
-    line_text (codes "unit") (numbers_text s.unit)
-    ∷ line_text (codes "product") (polynomials_text s.p (copies 2 s.group) s.product)
-    ∷ line_text (codes "inverse") (polynomials_text s.p s.group s.inverse)
-    ∷ line_text (codes "action") (polynomials_text s.p (s.group ++ s.space) s.action)
-    ∷ []
+map_lines s = line_text (codes "unit") (numbers_text s.unit) ∷ product_line s ∷ inverse_line s ∷ action_line s ∷ []
 
 -- no line for the usual number
 abbrev pub budget_lines : List ℕ → ℕ → ℕ → List (List ℕ)

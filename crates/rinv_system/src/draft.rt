@@ -209,68 +209,54 @@ impl Draft {
         }
     }
 
-    pub(crate) fn with_field(self, field: Gf) -> Draft
-        ensures { result ≡ with_number self word.Field field }
+    pub(crate) fn set_field(&mut self, field: Gf)
+        ensures { self.new ≡ with_number self.old word.Field field }
     {
-        let mut next = self;
-        next.field = Some(field);
-        next
+        self.field = Some(field);
     }
 
-    pub(crate) fn with_group(self, names: Names) -> Draft
-        ensures { result ≡ with_names self word.Group names }
+    pub(crate) fn set_group(&mut self, names: Names)
+        ensures { self.new ≡ with_names self.old word.Group names }
     {
-        let mut next = self;
-        next.group = Some(names);
-        next
+        self.group = Some(names);
     }
 
-    pub(crate) fn with_space(self, names: Names) -> Draft
-        ensures { result ≡ with_names self word.Space names }
+    pub(crate) fn set_space(&mut self, names: Names)
+        ensures { self.new ≡ with_names self.old word.Space names }
     {
-        let mut next = self;
-        next.space = Some(names);
-        next
+        self.space = Some(names);
     }
 
-    pub(crate) fn with_pairs(self, pairs: u32) -> Draft
-        ensures { result ≡ with_number self word.Pairs pairs }
+    pub(crate) fn set_pairs(&mut self, pairs: u32)
+        ensures { self.new ≡ with_number self.old word.Pairs pairs }
     {
-        let mut next = self;
-        next.pairs = Some(pairs);
-        next
+        self.pairs = Some(pairs);
     }
 
-    pub(crate) fn with_steps(self, steps: u64) -> Draft
-        ensures { result ≡ with_number self word.Steps steps }
+    pub(crate) fn set_steps(&mut self, steps: u64)
+        ensures { self.new ≡ with_number self.old word.Steps steps }
     {
-        let mut next = self;
-        next.steps = Some(steps);
-        next
+        self.steps = Some(steps);
     }
 
-    pub(crate) fn with_unit(self, unit: Vec<u32>) -> Draft
-        ensures { result ≡ record self { unit = Some unit.items } }
+    pub(crate) fn set_unit(&mut self, unit: Vec<u32>)
+        ensures { self.new ≡ record self.old { unit = Some unit.items } }
     {
-        let mut next = self;
-        next.unit = Some(unit);
-        next
+        self.unit = Some(unit);
     }
 
-    /// With the polynomials of a line, but for the unit.
-    pub(crate) fn with_polynomials(self, keyword: Keyword, list: Vec<KPoly>) -> Draft
+    /// The polynomials of a line, but for the unit.
+    pub(crate) fn set_polynomials(&mut self, keyword: Keyword, list: Vec<KPoly>)
         requires tells { TellsPolynomials keyword }
         requires not_unit { keyword ≡ word.Unit → ⊥ }
-        ensures { result ≡ with_polynomials self keyword list.items }
+        ensures { self.new ≡ with_polynomials self.old keyword list.items }
     {
-        let mut next = self;
         match keyword {
-            Keyword::Ideal => next.ideal = Some(list),
-            Keyword::Product => next.product = Some(list),
-            Keyword::Inverse => next.inverse = Some(list),
-            Keyword::Action => next.action = Some(list),
+            Keyword::Ideal => self.ideal = Some(list),
+            Keyword::Product => self.product = Some(list),
+            Keyword::Inverse => self.inverse = Some(list),
+            Keyword::Action => self.action = Some(list),
             _ => unreachable!(),
         }
-        next
     }
 }

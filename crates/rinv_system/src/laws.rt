@@ -6,7 +6,7 @@ ghost use Rattle.rinv_system.specs.OneSystem.{HasOneSystem};
 ghost use Rattle.rinv_system.specs.Texts.{IsSystemText};
 ghost use Rattle.rinv_system.specs.Written.{system_text, IsWritable};
 
-/// A text denotes one system at most, and has one refusal at most, and not both.
+/// A text denotes one system or has one refusal, and not both.
 pub fn system_texts_have_one_reading()
     ensures { (text : List ℕ) → HasOneSystem text }
 {}

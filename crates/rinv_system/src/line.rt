@@ -1,6 +1,6 @@
 //! What stands on a line, after what the lines before it told.
 
-ghost use Rattle.std.specs.Prelude.{◌≡◌, ◌<◌, ◌-◌, ◌^◌, None, length, IfOk, IfErr};
+ghost use Rattle.std.specs.Prelude.{◌≡◌, ◌<◌, ◌-◌, ◌^◌, None, length, IfOk, IfErr, OnOk};
 ghost use Rattle.rinv_system.specs.declared.keyword.Keyword.TheVariants as word;
 ghost use Rattle.rinv_system.specs.Drafts.{order_fault};
 ghost use Rattle.rinv_system.specs.Forms.{TellsNumber, TellsPolynomials, IsRestRefused, IsRestTaken, with_names};
@@ -14,24 +14,27 @@ use crate::{listing, naming, number};
 use rinv_text::Names;
 use std::alloc::Global;
 
-// With the number that the rest of a line is.
-fn with_number(draft: Draft, keyword: Keyword, rest: &[u8]) -> Result<Draft, Code>
+// Adds the number that the rest of a line is.
+fn add_number(draft: &mut Draft, keyword: Keyword, rest: &[u8]) -> Result<(), Code>
     requires { TellsNumber keyword }
-    ensures ok { IfOk result (IsRestTaken draft rest.now keyword) }
-    ensures fault { IfErr result (IsRestRefused draft rest.now keyword) }
+    ensures ok { OnOk result (IsRestTaken draft.old rest.now keyword draft.new) }
+    ensures fault { IfErr result (IsRestRefused draft.old rest.now keyword) }
 {
     match keyword {
         Keyword::Field => {
             let field = number::field(rest)?;
-            Ok(draft.with_field(field))
+            draft.set_field(field);
+            Ok(())
         }
         Keyword::Pairs => {
             let pairs = number::pairs(rest)?;
-            Ok(draft.with_pairs(pairs))
+            draft.set_pairs(pairs);
+            Ok(())
         }
         Keyword::Steps => {
             let steps = number::steps(rest)?;
-            Ok(draft.with_steps(steps))
+            draft.set_steps(steps);
+            Ok(())
         }
         _ => unreachable!(),
     }
@@ -49,67 +52,70 @@ fn space_names(alloc: Global, draft: &Draft, rest: &[u8]) -> Result<Names, LineS
     }
 }
 
-// With the polynomials that the rest of a line is.
-fn with_polynomials(
+// Adds the polynomials that the rest of a line is.
+fn add_polynomials(
     alloc: Global,
-    draft: Draft,
+    draft: &mut Draft,
     keyword: Keyword,
     rest: &[u8],
-) -> Result<Draft, LineStop>
+) -> Result<(), LineStop>
     requires tells { TellsPolynomials keyword }
-    requires order { order_fault draft keyword ≡ None }
-    requires reached { IsReached draft }
+    requires order { order_fault draft.now keyword ≡ None }
+    requires reached { IsReached draft.now }
     requires short { length rest.now < 2 ^ 32 - 1 }
-    ensures ok { IfOk result (IsRestTaken draft rest.now keyword) }
-    ensures fault { IfErr result (OnCode (IsRestRefused draft rest.now keyword)) }
+    ensures ok { OnOk result (IsRestTaken draft.old rest.now keyword draft.new) }
+    ensures fault { IfErr result (OnCode (IsRestRefused draft.old rest.now keyword)) }
 {
-    let list = listing::read(alloc, &draft, keyword, rest)?;
+    let list = listing::read(alloc, draft, keyword, rest)?;
     match keyword {
         Keyword::Unit => {
             let unit = listing::constants(alloc, draft.field(), &list)?;
-            Ok(draft.with_unit(unit))
+            draft.set_unit(unit);
+            Ok(())
         }
-        _ => Ok(draft.with_polynomials(keyword, list)),
+        _ => {
+            draft.set_polynomials(keyword, list);
+            Ok(())
+        }
     }
 }
 
-// With what the rest of a line is.
-fn with_rest(alloc: Global, draft: Draft, keyword: Keyword, rest: &[u8]) -> Result<Draft, LineStop>
-    requires order { order_fault draft keyword ≡ None }
-    requires reached { IsReached draft }
+// Adds what the rest of a line is.
+fn add_rest(alloc: Global, draft: &mut Draft, keyword: Keyword, rest: &[u8]) -> Result<(), LineStop>
+    requires order { order_fault draft.now keyword ≡ None }
+    requires reached { IsReached draft.now }
     requires short { length rest.now < 2 ^ 32 - 1 }
-    ensures ok { IfOk result (IsRestTaken draft rest.now keyword) }
-    ensures fault { IfErr result (OnCode (IsRestRefused draft rest.now keyword)) }
+    ensures ok { OnOk result (IsRestTaken draft.old rest.now keyword draft.new) }
+    ensures fault { IfErr result (OnCode (IsRestRefused draft.old rest.now keyword)) }
 {
     match keyword {
         Keyword::Field | Keyword::Pairs | Keyword::Steps => {
-            let next = with_number(draft, keyword, rest)?;
-            Ok(next)
+            add_number(draft, keyword, rest)?;
+            Ok(())
         }
         Keyword::Group => {
-            let names = naming::read(alloc, &draft, keyword, &Names::empty(alloc), rest)?;
-            Ok(draft.with_group(names))
+            let names = naming::read(alloc, draft, keyword, &Names::empty(alloc), rest)?;
+            draft.set_group(names);
+            Ok(())
         }
         Keyword::Space => {
-            let names = space_names(alloc, &draft, rest)?;
-            Ok(draft.with_space(names))
+            let names = space_names(alloc, draft, rest)?;
+            draft.set_space(names);
+            Ok(())
         }
-        _ => {
-            let next = with_polynomials(alloc, draft, keyword, rest)?;
-            Ok(next)
-        }
+        _ => add_polynomials(alloc, draft, keyword, rest),
     }
 }
 
-/// The draft that a line makes of the one before.
-pub(crate) fn with_line(alloc: Global, draft: Draft, line: &[u8]) -> Result<Draft, LineStop>
-    requires reached { IsReached draft }
+/// Adds what a line tells to what the lines before it told.
+pub(crate) fn add_line(alloc: Global, draft: &mut Draft, line: &[u8]) -> Result<(), LineStop>
+    requires reached { IsReached draft.now }
     requires short { length line.now < 2 ^ 32 - 1 }
-    ensures ok { IfOk result (IsLineTaken draft line.now) }
-    ensures fault { IfErr result (OnCode (IsLineRefused draft line.now)) }
+    ensures ok { OnOk result (IsLineTaken draft.old line.now draft.new) }
+    ensures fault { IfErr result (OnCode (IsLineRefused draft.old line.now)) }
 {
     if line.is_empty() {
-        return Ok(draft);
+        return Ok(());
     }
     let Some((keyword, rest)) = head(line) else {
         return Err(LineStop::Fault(Code::Word));
@@ -117,6 +123,6 @@ pub(crate) fn with_line(alloc: Global, draft: Draft, line: &[u8]) -> Result<Draf
     if let Some(code) = draft.order_fault(keyword) {
         return Err(LineStop::Fault(code));
     }
-    let next = with_rest(alloc, draft, keyword, rest)?;
-    Ok(next)
+    add_rest(alloc, draft, keyword, rest)?;
+    Ok(())
 }

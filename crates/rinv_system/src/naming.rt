@@ -1,7 +1,7 @@
 //! Lists of names.
 
-ghost use Rattle.std.specs.Prelude.{◌≡◌, ◌++◌, ℕ, List, map, true, IsTrue, IfOk, IfErr};
-ghost use Rattle.std.specs.List.{list_all};
+ghost use Rattle.std.specs.Prelude.{◌≡◌, ◌++◌, ◌∷◌, [], ℕ, List, map, bytes_eq, true, false, IsTrue, IfOk, IfErr, OnOk};
+ghost use Rattle.std.specs.List.{list_all, list_any};
 ghost use Rattle.rinv_text.specs.Tokens.{is_name_byte};
 ghost use Rattle.rinv_text.specs.Names.{is_new_name};
 ghost use Rattle.rinv_system.specs.Lines.{from_word, to_last_word};
@@ -82,6 +82,16 @@ fn is_new(earlier: &Names, names: &Names, word: &str) -> bool
     names.may_add(word) && earlier.may_add(word)
 }
 
+// Puts a name behind the others, none of which it is.
+fn push_name(alloc: Global, names: &mut Names, word: &str) -> Result<(), NoMemory>
+    requires { list_any (bytes_eq word.now) names.now ≡ false }
+    ensures { OnOk result (names.new ≡ names.old ++ word.now ∷ []) }
+{
+    let name = String::from_str(alloc, word)?;
+    names.push(name)?;
+    Ok(())
+}
+
 // The words as names, behind the earlier ones.
 fn new_names(alloc: Global, earlier: &Names, words: &[&[u8]]) -> Result<Names, LineStop>
     requires { list_all is_name_word (map (λ w. w.now) words.now) ≡ true }
@@ -95,7 +105,7 @@ fn new_names(alloc: Global, earlier: &Names, words: &[&[u8]]) -> Result<Names, L
         if !is_new(earlier, &names, text) {
             return Err(LineStop::Fault(Code::Text(TextCode::Name)));
         }
-        names.push(String::from_str(alloc, text)?)?;
+        push_name(alloc, &mut names, text)?;
     }
     Ok(names)
 }

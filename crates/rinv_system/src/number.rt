@@ -12,7 +12,7 @@ ghost use Rattle.rinv_system.specs.Stops.{IsNumberFor};
 
 use crate::refused::Code;
 use rinv_ring::Gf;
-use rinv_text::{TextCode, is_digit};
+use rinv_text::{TextCode, is_digit, number};
 
 // The greatest number of pairs, and of steps.
 const MAX_PAIRS: u64 = 1_000_000;
@@ -30,24 +30,6 @@ fn is_numeral(rest: &[u8]) -> bool
     ensures { result ≡ is_numeral rest.now }
 {
     !rest.is_empty() && are_digits(rest)
-}
-
-// The number that decimal digits write, if it is below 2^128.
-fn number(digits: &[u8]) -> Option<u128>
-    ensures value { MatchOption result (2 ^ 128 ≤ number_of digits.now) (λ n. n ≡ number_of digits.now) }
-    ensures small { IfSome result (λ n. n < 2 ^ 128) }
-{
-    let mut number: u128 = 0;
-    'digits: for digit in digits {
-        let Some(tens) = number.checked_mul(10) else {
-            return None;
-        };
-        let Some(next) = tens.checked_add(u128::from(digit.saturating_sub(b'0'))) else {
-            return None;
-        };
-        number = next;
-    }
-    Some(number)
 }
 
 /// The field whose modulus the rest of a line is.

@@ -8,7 +8,7 @@ ghost use Rattle.rinv_system.specs.Texts.{AreTaken, contents_of, told_by, IsSyst
 ghost use Rattle.rinv_system.specs.Stops.{OnRefusal, stop_at};
 
 use crate::draft::Draft;
-use crate::line::with_line;
+use crate::line::add_line;
 use crate::lines::{content, first_bad_line, first_line};
 use crate::refused::{Code, LineStop, Refused, SystemStop};
 use rinv_text::System;
@@ -23,30 +23,37 @@ const STEPS: u64 = 10_000_000;
 fn finished(alloc: Global, draft: Draft) -> Option<System>
     ensures { MatchOption result (IsFalse (is_whole draft)) (λ s. IsTrue (is_whole draft) × (s ≡ told_by draft)) }
 {
-    let Draft {
+    let (
+        Some(field),
+        Some(group),
+        Some(space),
+        Some(unit),
+        Some(product),
+        Some(inverse),
+        Some(action),
+    ) = (
+        draft.field,
+        draft.group,
+        draft.space,
+        draft.unit,
+        draft.product,
+        draft.inverse,
+        draft.action,
+    ) else {
+        return None;
+    };
+    Some(System {
         field,
         group,
         space,
-        ideal,
+        ideal: draft.ideal.unwrap_or(Vec::new(alloc)),
         unit,
         product,
         inverse,
         action,
-        pairs,
-        steps,
-    } = draft;
-    Some(System {
-        field: field?,
-        group: group?,
-        space: space?,
-        ideal: ideal.unwrap_or(Vec::new(alloc)),
-        unit: unit?,
-        product: product?,
-        inverse: inverse?,
-        action: action?,
         section: Vec::new(alloc),
-        pairs: pairs.unwrap_or(PAIRS),
-        steps: steps.unwrap_or(STEPS),
+        pairs: draft.pairs.unwrap_or(PAIRS),
+        steps: draft.steps.unwrap_or(STEPS),
     })
 }
 
@@ -72,8 +79,8 @@ fn read_lines(alloc: Global, text: &[u8]) -> Result<(Draft, u32), SystemStop>
     let mut count = 0;
     'lines: while !rest.is_empty() {
         let (line, following) = first_line(rest);
-        match with_line(alloc, draft, content(line)) {
-            Ok(next) => draft = next,
+        match add_line(alloc, &mut draft, content(line)) {
+            Ok(()) => {}
             Err(stop) => return Err(stop_at(count + 1, stop)),
         }
         rest = following;

@@ -80,9 +80,17 @@ fn refuses_changed_texts(rt: HostRuntime) -> Result<(), Fail> {
 }
 
 #[test]
-fn refuses_empty_texts(rt: HostRuntime) {
-    let code = Code::Missing;
-    for (text, line) in [("", 1), ("\n", 2), ("# nothing", 2)] {
+fn refuses_whole_texts(rt: HostRuntime) {
+    for (text, line, code) in [
+        ("", 1, Code::Missing),
+        ("\n", 2, Code::Missing),
+        ("# nothing", 2, Code::Missing),
+        (
+            "field 101\ngroup a, b\nspace x, y\nideal a*b-1\nunit 1, 1\nproduct a*a', b*b'\ninverse b, a\naction a*x, a*y\nsection y-1",
+            9,
+            Code::Word,
+        ),
+    ] {
         let refused = SystemStop::Refused(Refused { line, code });
         assert_eq!(rt;
             outcome(rt.alloc(), text.as_bytes()).err(),
@@ -127,6 +135,26 @@ fn reads_worked_texts(rt: HostRuntime) {
         (
             "field 2\ngroup a\nspace x\nideal a^2-1\nunit 1\nproduct a*a'\ninverse a\naction a*x",
             [1, 1, 1, 1, 1],
+        ),
+        (
+            "field 7\ngroup a\nspace x\nideal a^2-1\nunit 1\nproduct a*a'\ninverse a\naction a*x",
+            [1, 1, 1, 1, 1],
+        ),
+        (
+            "field 5\ngroup a\nspace x\nideal a^5\nunit 0\nproduct a+a'\ninverse -a\naction x+a",
+            [1, 1, 1, 1, 1],
+        ),
+        (
+            "field 101\ngroup a, b\nspace x\nideal a*b-1\nunit 1, 1\nproduct a*a', b*b'\ninverse b, a\naction a*x",
+            [2, 1, 1, 2, 1],
+        ),
+        (
+            "field 5\ngroup a\nspace x\nunit 0\nproduct a+a'\ninverse -a\naction x+a",
+            [1, 1, 0, 1, 1],
+        ),
+        (
+            "field 7\ngroup a\nspace x, y\nideal a^2-1\nunit 1\nproduct a*a'\ninverse a\naction a*x, a*y",
+            [1, 2, 1, 1, 2],
         ),
     ] {
         assert_eq!(rt;

@@ -2,7 +2,7 @@
 
 ghost use Rattle.std.specs.Prelude.{◌≡◌, ◌++◌, ◌==◌, ℕ, List, [], ◌∷◌, length, map, codes, decimal, nat_lt, All, IsTrue, IfOk, OnOk, if◌then◌else◌};
 ghost use Rattle.rinv_defs.specs.SystemForm.{IsSystem};
-ghost use Rattle.rinv_system.specs.Written.{list_text, numbers_text, line_text, first_lines, ideal_lines, map_lines, budget_lines, text_of, system_text};
+ghost use Rattle.rinv_system.specs.Written.{list_text, numbers_text, line_text, first_lines, ideal_lines, product_line, inverse_line, action_line, map_lines, budget_lines, text_of, system_text};
 ghost use Rattle.rinv_system.specs.Writing.{AreOver, AppendsPolynomials, AppendsPolynomialsLine};
 
 use rinv_poly::KPoly;
@@ -166,17 +166,44 @@ fn write_ideal(alloc: Global, system: &System, out: &mut Vec<u8>) -> Result<(), 
     Ok(())
 }
 
+// The line of the product, which has the group's names twice.
+fn write_product(alloc: Global, system: &System, out: &mut Vec<u8>) -> Result<(), NoMemory>
+    requires { IsSystem system.now.system }
+    ensures { OnOk result (out.new.items ≡ out.old.items ++ (product_line system.now.system ++ codes "\n")) }
+{
+    let factors = system.group.copies(alloc, 2)?;
+    polynomials_line(alloc, b"product", &system.product, &factors, out)?;
+    Ok(())
+}
+
+// The line of the inverse.
+fn write_inverse(alloc: Global, system: &System, out: &mut Vec<u8>) -> Result<(), NoMemory>
+    requires { IsSystem system.now.system }
+    ensures { OnOk result (out.new.items ≡ out.old.items ++ (inverse_line system.now.system ++ codes "\n")) }
+{
+    polynomials_line(alloc, b"inverse", &system.inverse, &system.group, out)?;
+    Ok(())
+}
+
+// The line of the action, which has the names of the group and of the space.
+fn write_action(alloc: Global, system: &System, out: &mut Vec<u8>) -> Result<(), NoMemory>
+    requires { IsSystem system.now.system }
+    ensures { OnOk result (out.new.items ≡ out.old.items ++ (action_line system.now.system ++ codes "\n")) }
+{
+    let both = system.group.joined(alloc, &system.space)?;
+    polynomials_line(alloc, b"action", &system.action, &both, out)?;
+    Ok(())
+}
+
 // The lines of the group's unit, product and inverse, and of the action.
 fn write_maps(alloc: Global, system: &System, out: &mut Vec<u8>) -> Result<(), NoMemory>
     requires { IsSystem system.now.system }
     ensures { OnOk result (out.new.items ≡ out.old.items ++ text_of (map_lines system.now.system)) }
 {
-    let factors = system.group.copies(alloc, 2)?;
-    let both = system.group.joined(alloc, &system.space)?;
     numbers_line(alloc, b"unit", &system.unit, out)?;
-    polynomials_line(alloc, b"product", &system.product, &factors, out)?;
-    polynomials_line(alloc, b"inverse", &system.inverse, &system.group, out)?;
-    polynomials_line(alloc, b"action", &system.action, &both, out)?;
+    write_product(alloc, system, out)?;
+    write_inverse(alloc, system, out)?;
+    write_action(alloc, system, out)?;
     Ok(())
 }
 

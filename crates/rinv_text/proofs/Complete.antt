@@ -1,20 +1,20 @@
 -- The automaton reads each phrase of the grammar, and has its steps then.
-use Rattle.std.proofs.Common.{◌≡◌, ℕ, List, [], ◌∷◌, ◌++◌, map, Bool, true, false, refl, sym, ap, ◌∙◌, append_assoc, Some}
+use Rattle.std.proofs.Common.{◌≡◌, ℕ, List, [], ◌∷◌, ◌++◌, map, Bool, true, false, refl, ap, ◌∙◌, append_assoc, Some}
 use Rattle.std.proofs.lemmas.List.{map-append, append-nil}
 use Rattle.rinv_text.specs.declared.token.Literal.{Literal}
 use Rattle.rinv_text.specs.declared.token.Kind.{Kind}
-use Rattle.rinv_text.specs.declared.token.Kind.TheVariants.{Plus, Minus, Times, Caret, Opening, Closing}
+use Rattle.rinv_text.specs.declared.token.Kind.TheVariants.{Plus, Minus, Times, Closing}
 use Rattle.rinv_text.specs.declared.step.Step.{Step}
-use Rattle.rinv_text.specs.declared.step.Step.TheVariants.{Negative, Sum, Difference, Product, Power}
+use Rattle.rinv_text.specs.declared.step.Step.TheVariants.{Negative, Sum, Difference, Power}
 use Rattle.rinv_text.specs.declared.parser.Mode.{Mode}
-use Rattle.rinv_text.specs.declared.parser.Mode.TheVariants.{Start, Operand, Atom, Factor, Exponent}
+use Rattle.rinv_text.specs.declared.parser.Mode.TheVariants.{Start, Operand, Atom, Factor}
 use Rattle.rinv_text.specs.declared.parser.Pending.{Pending}
 use Rattle.rinv_text.specs.declared.parser.Pending.TheVariants as waits
 use Rattle.rinv_text.specs.declared.parser.Unfinished.{Unfinished}
 use Rattle.rinv_text.specs.Tokens.{Token, numeral, word, caret, opening, closing, plus, minus, times}
 use Rattle.rinv_text.specs.Grammar.{Tree, number, name, negative, sum, difference, product, power, Level, atom, factor, term, expression, Derives, a_number, a_name, in_parentheses, an_atom, a_power, a_factor, a_product, a_term, with_plus, with_minus, a_sum, a_difference}
 use Rattle.rinv_text.specs.Images.{kind_of, steps_of}
-use Rattle.rinv_text.specs.Automaton.{State, run, initial, finished, fresh, product_steps, term_steps, settled}
+use Rattle.rinv_text.specs.Automaton.{State, run, initial, finished, product_steps, term_steps}
 use Rattle.rinv_text.proofs.Runs.{run-on}
 
 -- a state by its parts

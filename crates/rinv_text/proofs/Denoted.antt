@@ -9,7 +9,7 @@ use Rattle.rinv_text.specs.declared.fault.TextStop.{TextStop}
 use Rattle.rinv_text.specs.declared.fault.TextStop.TheVariants.{Fault, NoMemory}
 use Rattle.rinv_text.specs.Faults.{OnFault}
 use Rattle.rinv_text.specs.declared.fault.TextCode.{TextCode}
-use Rattle.rinv_text.specs.declared.fault.TextCode.TheVariants.{Expression, Name, Limit, FormalDegree, FormalTerms}
+use Rattle.rinv_text.specs.declared.fault.TextCode.TheVariants.{Expression, Limit, FormalDegree, FormalTerms}
 use Rattle.rinv_text.specs.Tokens.{Placed, kinds, tokens}
 use Rattle.rinv_text.specs.Grammar.{Tree}
 use Rattle.rinv_text.specs.Formal.{formal_degree, is_high, is_long}
@@ -19,7 +19,7 @@ use Rattle.rinv_text.specs.Images.{literal_of, seen, steps_of}
 use Rattle.rinv_text.specs.Automaton.{initial, parsed}
 use Rattle.rinv_text.specs.Evaluation.{outcome}
 use Rattle.rinv_text.specs.Sizes.{sizes}
-use Rattle.rinv_text.specs.Sightings.{first_unknown_word, exceeds, first_place, size_excess, excess_of, fault_by, fault_of, IsRead}
+use Rattle.rinv_text.specs.Sightings.{first_unknown_word, first_place, size_excess, excess_of, fault_by, fault_of, IsRead}
 use Rattle.rinv_algebra.specs.Polynomial.{Polynomial}
 use Rattle.rinv_text.specs.Values.{IsNormalOver, IsStored}
 use Rattle.rinv_text.specs.Meanings.{Meaning, meanings}
@@ -28,7 +28,7 @@ use Rattle.rinv_text.proofs.Postfix.{outcome-steps}
 use Rattle.rinv_text.proofs.Judged.{size_of, unless, sizes-result}
 use Rattle.rinv_text.proofs.Words.{derived-names}
 use Rattle.rinv_text.proofs.Seen.{unknown-seen, exceeds-seen}
-use Rattle.rinv_text.proofs.Read.{HasPlace, words-known, meaning_of, meanings-result}
+use Rattle.rinv_text.proofs.Read.{HasPlace, words-known, meanings-result}
 
 -- what the size of an expression shows
 size-shows : (t : Tree) (high : Bool) → size_excess (unless high (size_of t)) ≡ (if high then Some FormalDegree else if is_long t then Some FormalTerms else None)
@@ -49,6 +49,14 @@ high-none : (past high long : Bool) → (if past then Some Limit else if high th
 high-none true high long e = cc
 high-none false true long e = cc
 high-none false false long e = refl
+
+-- its names are known, and its degree is low
+pub accepted-low : (names : List (List ℕ)) (ts : List Placed) (t : Tree) → refusal names ts t ≡ None → (first_unknown names ts ≡ None) × (is_high t ≡ false)
+unfolding refusal
+accepted-low names ts t none = (
+  unknown-none ts (first_unknown names ts) (excess (kinds ts) t) none,
+  high-none (is_past_limit 0 (kinds ts)) (is_high t) (is_long t) (excess-none ts (first_unknown names ts) (excess (kinds ts) t) none),
+)
 
 module _ (p : ℕ) (names : List (List ℕ)) where
   first-seen : (ts : List Placed) → first_place (map (seen (literal_of p) (place_of names)) ts) ≡ start ts
@@ -111,13 +119,10 @@ module _ (p : ℕ) (names : List (List ℕ)) where
         pub result : outcome (meanings p (length names)) ss ≡ Some (record { degree = formal_degree tree; value = value p names tree })
 
       pub text-accepted : IsTrue (is_listed p) → None ≡ fault_of (length names) ts ss → Accepted
-      unfolding refusal
       text-accepted listed e =
           let (t, d, s) = parsed-ok (literal_of p) (place_of names) (length text) (tokens text) ss (read-as (Ok ss) ok) in
           let none : refusal names (tokens text) t ≡ None = sym (faults-as t s) ∙ sym e in
-          let known : first_unknown names (tokens text) ≡ None = unknown-none (tokens text) (first_unknown names (tokens text)) (excess (kinds (tokens text)) t) none in
-          let within : excess (kinds (tokens text)) t ≡ None = excess-none (tokens text) (first_unknown names (tokens text)) (excess (kinds (tokens text)) t) none in
-          let low : is_high t ≡ false = high-none (is_past_limit 0 (kinds (tokens text))) (is_high t) (is_long t) within in
+          let (known, low) = accepted-low names (tokens text) t none in
           record {
             tree = t;
             derived = d;

@@ -1,5 +1,5 @@
 -- The size that the steps of an expression give is that of its formal numbers.
-use Rattle.std.proofs.Common.{◌≡◌, ℕ, suc, ◌+◌, ◌*◌, ◌^◌, ◌<◌, ◌≤◌, min, max, List, Bool, true, false, ◌||◌, nat_lt, if◌then◌else◌, refl, sym, ap, ◌∙◌, arith, inl, inr, Option, Some, None, ltb}
+use Rattle.std.proofs.Common.{◌≡◌, ℕ, ◌+◌, ◌*◌, ◌^◌, ◌≤◌, min, max, List, Bool, true, false, ◌||◌, nat_lt, if◌then◌else◌, refl, sym, ap, ◌∙◌, arith, inl, inr, Option, Some, None, true≢false}
 use Rattle.std.specs.Prelude.{option_and_then}
 use Rattle.std.proofs.lemmas.Bool.{cases_Bool}
 use Rattle.std.proofs.lemmas.Bool.Decides.{nat_tests}
@@ -7,7 +7,7 @@ use Rattle.rinv_text.specs.declared.size.Size.{Size}
 use Rattle.rinv_text.specs.Grammar.{Tree, number, name, negative, sum, difference, product, power}
 use Rattle.rinv_text.specs.Formal.{formal_degree, formal_terms, some_part, has_high_exponent, is_high, is_long, max_formal_degree, max_formal_terms}
 use Rattle.rinv_text.specs.Images.{literal_of, exponent_of}
-use Rattle.rinv_text.specs.Sizes.{judged, counted, sum_size, sizes}
+use Rattle.rinv_text.specs.Sizes.{counted, sum_size, sizes}
 use Rattle.rinv_text.proofs.Caps.{capped-product, capped-power}
 use Rattle.rinv_text.proofs.Postfix.{result, both}
 
@@ -51,6 +51,13 @@ own test (sum t u) e = ap (λ b. some_part test t || some_part test u || b) e �
 own test (difference t u) e = ap (λ b. some_part test t || some_part test u || b) e ∙ or-true (some_part test t || some_part test u)
 own test (product t u) e = ap (λ b. some_part test t || some_part test u || b) e ∙ or-true (some_part test t || some_part test u)
 own test (power t k) e = ap (λ b. some_part test t || b) e ∙ or-true (some_part test t)
+
+-- an expression that is not too high has a low degree
+pub degree-low : (t : Tree) → is_high t ≡ false → formal_degree t ≤ max_formal_degree
+degree-low t h = elim (cases_Bool (nat_lt max_formal_degree (formal_degree t))) [
+  | inl e ↦ absurd (true≢false (sym (own (λ u. has_high_exponent u || nat_lt max_formal_degree (formal_degree u)) t (ap (λ b. has_high_exponent t || b) e ∙ or-true (has_high_exponent t))) ∙ h))
+  | inr e ↦ grind (arith, nat_tests)
+]
 
 absorbed : (a x : Bool) → (x ≡ true → a ≡ true) → a ≡ (a || x)
 absorbed true x f = refl

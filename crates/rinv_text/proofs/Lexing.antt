@@ -1,14 +1,14 @@
 -- The tokens of the bytes that are left.
-use Rattle.std.proofs.Common.{◌≡◌, ℕ, zero, suc, ◌+◌, ◌-◌, ◌<◌, ◌≤◌, ◌⊎◌, inl, inr, List, [], ◌∷◌, ◌++◌, append_assoc, length, get_or, take, drop, ap, subst, refl, ◌∙◌, sym, add-one, drop-cons, Bool, true, false, cond, ◌||◌, ◌==◌, if◌then◌else◌, arith, length-drop, length-take, ltb, IsAscii}
+use Rattle.std.proofs.Common.{◌≡◌, ℕ, zero, suc, ◌+◌, ◌-◌, ◌<◌, ◌≤◌, ◌⊎◌, inl, inr, List, [], ◌∷◌, ◌++◌, append_assoc, length, get_or, take, drop, ap, subst, refl, ◌∙◌, sym, add-one, drop-cons, Bool, true, false, ◌==◌, if◌then◌else◌, arith, length-drop, length-take, ltb, IsAscii}
 use Rattle.std.proofs.lemmas.Bool.{cases_Bool}
 use Rattle.std.proofs.lemmas.Bool.Decides.{nat_tests}
 use Rattle.std.proofs.lemmas.List.{get_or-take, get_or_past}
-use Rattle.std.proofs.lemmas.List.Sums.{prefix_len_passes, prefix_len-le-length}
+use Rattle.std.proofs.lemmas.List.Sums.{prefix_len_passes}
 use Rattle.std.proofs.Math.ListN.{drop_of_length-le}
 use Rattle.std.proofs.Math.Seq.{take-length}
 use Rattle.std.specs.List.{prefix_len}
-use Rattle.rinv_defs.specs.Names.{is_letter, is_digit}
-use Rattle.rinv_text.specs.Tokens.{Token, Placed, is_blank, is_name_byte, name_length, further_length, token_at, tokens_after}
+use Rattle.rinv_defs.specs.Names.{is_letter}
+use Rattle.rinv_text.specs.Tokens.{is_blank, is_name_byte, name_length, further_length, token_at, tokens_after}
 
 -- the bytes of the token before are skipped
 tokens-skipped : (n place : ℕ) (bs : List ℕ) → n ≤ length bs → tokens_after n place bs ≡ tokens_after 0 (place + n) (drop n bs)

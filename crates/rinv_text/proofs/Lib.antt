@@ -15,7 +15,7 @@ pub mod Unambiguous
 pub mod OneReading
 pub mod Tokenwise
 pub mod Prefixes
-pub mod Digits
+pub mod DigitFacts
 pub mod Places
 pub mod Joined
 mod TermsInTurn
@@ -38,6 +38,7 @@ pub mod Powers
 pub mod Piles
 pub mod Read
 pub mod Denoted
+pub mod Readable
 pub mod Expressions
 pub mod PrintedTokens
 pub mod PrintedBytes

@@ -1,14 +1,13 @@
 -- Stacks of values, against what they stand for.
-use Rattle.std.proofs.Common.{◌≡◌, ℕ, ◌+◌, ◌*◌, ◌<◌, ◌≤◌, max, List, [], ◌∷◌, ◌++◌, All, true, false, Bool, if◌then◌else◌, nat_le, nat_lt, refl, sym, ap, subst, ◌∙◌, arith, Option, Some, None}
+use Rattle.std.proofs.Common.{◌≡◌, ℕ, ◌+◌, ◌*◌, ◌≤◌, List, [], ◌∷◌, true, false, Bool, if◌then◌else◌, nat_le, refl, sym, ap, subst, ◌∙◌, arith, Option, Some, None}
 use Rattle.std.proofs.lemmas.Bool.Decides.{nat_tests}
 use Rattle.rinv_algebra.specs.Monomial.{max_degree}
 use Rattle.rinv_algebra.specs.Residue.{residue_ops}
 use Rattle.rinv_algebra.specs.Polynomial.{product}
-use Rattle.rinv_poly.specs.Sums.{sum_of}
 use Rattle.rinv_text.specs.Reading.{to_the}
 use Rattle.rinv_text.specs.declared.partial.Partial.{Partial}
 use Rattle.rinv_text.specs.Evaluation.{on_one, on_two, onto, top}
-use Rattle.rinv_text.specs.Values.{Stands, IsPartial, IsNormalOver, IsLow, MayMultiply}
+use Rattle.rinv_text.specs.Values.{Stands, IsPartial, MayMultiply}
 use Rattle.rinv_text.specs.Meanings.{Meaning, meanings, Piled}
 
 -- an answer that depends on a test

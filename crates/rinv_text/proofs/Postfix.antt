@@ -1,7 +1,7 @@
 -- The steps of an expression put its value on the stack.
 use Rattle.std.proofs.Common.{◌≡◌, ℕ, List, [], ◌∷◌, ◌++◌, refl, sym, ap, ◌∙◌, append_assoc, Option, Some, None}
 use Rattle.std.proofs.lemmas.List.{append-nil}
-use Rattle.std.specs.Prelude.{option_and_then, option_map}
+use Rattle.std.specs.Prelude.{option_and_then}
 use Rattle.rinv_text.specs.declared.token.Literal.{Literal}
 use Rattle.rinv_text.specs.declared.step.Step.{Step}
 use Rattle.rinv_text.specs.declared.step.Step.TheVariants.{Negative, Sum, Difference, Product, Power}

@@ -13,7 +13,7 @@ use Rattle.rinv_algebra.specs.Monomial.{total_degree}
 use Rattle.rinv_algebra.specs.Polynomial.{Polynomial, Term, constant}
 use Rattle.rinv_algebra.specs.Normal.{IsNormal}
 use Rattle.rinv_algebra.proofs.ResidueLaws.{residue_laws}
-use Rattle.rinv_poly.proofs.Gather.{same-then, same-back, term-zero}
+use Rattle.rinv_poly.proofs.Gather.{same-back, term-zero}
 use Rattle.rinv_poly.proofs.Permuted.{same-permuted}
 use Rattle.rinv_poly.proofs.Forms.{IsNormalTerm, ordered-from_normal}
 use Rattle.rinv_defs.specs.Text.{term_text, terms_text, poly_text, descending_terms}

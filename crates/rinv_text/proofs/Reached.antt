@@ -1,11 +1,11 @@
 -- What stands before the place that the automaton has reached: the phrases that are whole so far.
-use Rattle.std.proofs.Common.{◌≡◌, ℕ, suc, List, [], ◌∷◌, ◌++◌, length, replicate, map, refl, sym, ap, subst, ◌∙◌, append_assoc, Some, None}
+use Rattle.std.proofs.Common.{◌≡◌, List, [], ◌∷◌, ◌++◌, length, replicate, refl, sym, ap, subst, ◌∙◌, append_assoc}
 use Rattle.std.proofs.lemmas.List.{append-nil}
 use Rattle.rinv_text.specs.declared.parser.Mode.{Mode}
 use Rattle.rinv_text.specs.declared.parser.Mode.TheVariants.{Start, Operand, Atom, Factor, Exponent}
 use Rattle.rinv_text.specs.declared.parser.Unfinished.{Unfinished}
-use Rattle.rinv_text.specs.Tokens.{Token, numeral, word, caret, opening, closing, plus, minus, times}
-use Rattle.rinv_text.specs.Grammar.{Tree, atom, factor, term, expression, Derives, a_number, a_name, in_parentheses, an_atom, a_power, a_factor, a_product, a_term, with_plus, with_minus, a_sum, a_difference, Begins}
+use Rattle.rinv_text.specs.Tokens.{Token, numeral, caret, opening, closing, plus, minus, times}
+use Rattle.rinv_text.specs.Grammar.{Tree, atom, factor, term, expression, Derives, a_number, in_parentheses, an_atom, a_power, a_factor, a_product, a_term, with_plus, with_minus, a_sum, a_difference, Begins}
 
 -- what stands before a term in its expression
 pub data BeforeTerm : List Token → Type 0 where

@@ -1,17 +1,17 @@
 -- From the passes of the reader to what a text denotes.
-use Rattle.std.proofs.Common.{◌≡◌, ℕ, ◌+◌, ◌*◌, ◌%◌, ◌<◌, ◌≤◌, max, List, [], ◌∷◌, length, map, Bool, true, false, not, ◌||◌, nat_le, nat_lt, if◌then◌else◌, bytes_eq, refl, sym, ap, subst, ◌∙◌, arith, IsTrue, Option, Some, None}
+use Rattle.std.proofs.Common.{◌≡◌, ℕ, ◌+◌, ◌*◌, ◌%◌, ◌<◌, List, [], ◌∷◌, length, Bool, true, false, not, ◌||◌, nat_le, nat_lt, if◌then◌else◌, bytes_eq, refl, sym, ap, subst, ◌∙◌, arith, IsTrue, Option, Some, None}
 use Rattle.std.specs.Prelude.{option_and_then}
 use Rattle.std.specs.List.{list_any}
 use Rattle.std.proofs.Math.Nat.{mod-lt}
 use Rattle.std.proofs.lemmas.Bool.Decides.{nat_tests}
 use Rattle.rinv_algebra.specs.Residue.{is_listed, residue, residue_ops}
-use Rattle.rinv_algebra.specs.Polynomial.{Polynomial, opposite, product as times, constant, variable}
+use Rattle.rinv_algebra.specs.Polynomial.{constant, variable}
 use Rattle.rinv_algebra.proofs.ResidueLaws.{modulus_of_listed}
-use Rattle.rinv_text.specs.Tokens.{Token, Placed, kinds, numeral, word, plus, minus, times as star, caret, opening, closing, foreign}
+use Rattle.rinv_text.specs.Tokens.{Placed, kinds, numeral, word, plus, minus, times as star, caret, opening, closing, foreign}
 use Rattle.rinv_text.specs.Grammar.{Tree, number, name, negative, sum, difference, product, power}
-use Rattle.rinv_text.specs.Formal.{formal_degree, formal_terms, some_part, has_high_exponent, is_high, is_long, max_formal_degree}
-use Rattle.rinv_text.specs.Reading.{to_the, place_of, value}
-use Rattle.rinv_text.specs.Stops.{is_known, first_unknown}
+use Rattle.rinv_text.specs.Formal.{formal_degree, some_part, is_high, max_formal_degree}
+use Rattle.rinv_text.specs.Reading.{place_of, value}
+use Rattle.rinv_text.specs.Stops.{first_unknown}
 use Rattle.rinv_text.specs.Images.{literal_of, exponent_of}
 use Rattle.rinv_text.specs.Meanings.{Meaning, meanings}
 use Rattle.rinv_text.proofs.Postfix.{result, both}
@@ -49,18 +49,18 @@ either-false : (a b : Bool) → (a || b) ≡ false → (a ≡ false) × (b ≡ f
 either-false true b e = cc
 either-false false b e = (refl, e)
 
+pub residue-below : (p : ℕ) → IsTrue (is_listed p) → (n : ℕ) → nat_lt (residue p n) p ≡ true
+residue-below p listed n =
+    let below : residue p n < p = subst (λ (m : ℕ). n % m < p) (sym (modulus_of_listed p listed)) (mod-lt n (positive p listed)) in
+    grind (arith, nat_tests)
+  where
+    positive : (p : ℕ) → IsTrue (is_listed p) → 0 < p
+    positive p h = grind (arith, nat_tests)
+
 module _ (p : ℕ) (names : List (List ℕ)) (listed : IsTrue (is_listed p)) where
   -- the meaning of an expression
   abbrev pub meaning_of : Tree → Meaning
   meaning_of t = record { degree = formal_degree t; value = value p names t }
-
-  residue-below : (n : ℕ) → nat_lt (residue p n) p ≡ true
-  residue-below n =
-      let below : residue p n < p = subst (λ (m : ℕ). n % m < p) (sym (modulus_of_listed p listed)) (mod-lt n (positive p listed)) in
-      grind (arith, nat_tests)
-    where
-      positive : (p : ℕ) → IsTrue (is_listed p) → 0 < p
-      positive p h = grind (arith, nat_tests)
 
   two : (f : Meaning → Meaning → Option Meaning) (x y : Option Meaning) (t u : Tree) → x ≡ Some (meaning_of t) → y ≡ Some (meaning_of u) → both (meanings p (length names)) (literal_of p) (place_of names) f x y ≡ f (meaning_of t) (meaning_of u)
   two f x y t u e h = ap (λ o. both (meanings p (length names)) (literal_of p) (place_of names) f o y) e ∙ ap (λ o. both (meanings p (length names)) (literal_of p) (place_of names) f (Some (meaning_of t)) o) h
@@ -68,7 +68,7 @@ module _ (p : ℕ) (names : List (List ℕ)) (listed : IsTrue (is_listed p)) whe
   -- the value of the steps of an expression is its polynomial
   pub meanings-result : (t : Tree) → is_high t ≡ false → EachName (HasPlace names) t → result (meanings p (length names)) (literal_of p) (place_of names) t ≡ Some (meaning_of t)
   unfolding result value formal_degree some_part
-  meanings-result (number n) high named = ap (λ (b : Bool). if b then Some (record { degree = 0; value = constant (residue_ops p) (residue p n) }) else None) (residue-below n)
+  meanings-result (number n) high named = ap (λ (b : Bool). if b then Some (record { degree = 0; value = constant (residue_ops p) (residue p n) }) else None) (residue-below p listed n)
   meanings-result (name w) high named = ap (λ (b : Bool). if b then Some (record { degree = 1; value = variable (residue_ops p) (place_of names w) }) else None) named
   meanings-result (negative t) high named =
       ap (λ o. option_and_then (meanings p (length names)).negative o) (meanings-result t (either-false (is_high t) _ high).0 named)

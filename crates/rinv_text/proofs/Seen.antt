@@ -3,7 +3,6 @@ use Rattle.std.proofs.Common.{◌≡◌, ℕ, suc, ◌+◌, ◌<◌, ◌≤◌, 
 use Rattle.std.proofs.Math.ListN.{drop_of_length-le}
 use Rattle.std.proofs.lemmas.Bool.Decides.{nat_tests}
 use Rattle.std.specs.List.{list_any}
-use Rattle.rinv_text.specs.declared.token.Kind.{Kind}
 use Rattle.rinv_text.specs.declared.token.Placed.{Placed as Seen}
 use Rattle.rinv_text.specs.Tokens.{Token, Placed, kinds, numeral, word, plus, minus, times, caret, opening, closing, foreign}
 use Rattle.rinv_text.specs.Reading.{place_of}

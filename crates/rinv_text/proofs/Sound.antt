@@ -1,18 +1,17 @@
 -- What the automaton has read is what the grammar says.
-use Rattle.std.proofs.Common.{◌≡◌, ℕ, List, [], ◌∷◌, ◌++◌, map, Bool, refl, sym, ap, subst, ◌∙◌, append_assoc, Some, None, Option}
+use Rattle.std.proofs.Common.{◌≡◌, ℕ, List, [], ◌∷◌, ◌++◌, map, refl, sym, ap, subst, ◌∙◌, append_assoc, Some, None}
 use Rattle.std.proofs.lemmas.List.{append-nil}
 use Rattle.std.specs.Prelude.{option_and_then}
 use Rattle.rinv_text.specs.declared.token.Literal.{Literal}
-use Rattle.rinv_text.specs.declared.token.Kind.{Kind}
 use Rattle.rinv_text.specs.declared.step.Step.{Step}
 use Rattle.rinv_text.specs.declared.parser.Mode.{Mode}
-use Rattle.rinv_text.specs.declared.parser.Mode.TheVariants.{Start, Operand, Atom, Factor, Exponent}
+use Rattle.rinv_text.specs.declared.parser.Mode.TheVariants.{Operand, Factor}
 use Rattle.rinv_text.specs.declared.parser.Unfinished.{Unfinished}
 use Rattle.rinv_text.specs.Tokens.{Token, numeral, word, caret, opening, closing, plus, minus, times}
-use Rattle.rinv_text.specs.Grammar.{Tree, atom, factor, Derives, a_number, a_name, in_parentheses, an_atom, a_power, Begins}
+use Rattle.rinv_text.specs.Grammar.{Tree, factor, Derives, a_number, a_name, in_parentheses, an_atom, a_power}
 use Rattle.rinv_text.specs.Images.{kind_of}
-use Rattle.rinv_text.specs.Automaton.{State, advanced, performed, at_operand, at_factor, closed, run, initial, finished}
-use Rattle.rinv_text.proofs.Reached.{BeforeFactor, first, nothing, a_plus, a_minus, to_add, to_subtract, to_multiply, Nested, outermost, inside, Reached, at_start as start_of, at_operand as operand_of, at_exponent as exponent_of, at_atom as atom_of, at_factor as factor_of, expression_after, term_at, TermAt, IsWhole, reached-begins}
+use Rattle.rinv_text.specs.Automaton.{State, advanced, performed, at_operand, at_factor, closed, run, finished}
+use Rattle.rinv_text.proofs.Reached.{BeforeFactor, first, nothing, a_plus, a_minus, to_add, to_subtract, to_multiply, Nested, outermost, inside, Reached, at_start as start_of, at_operand as operand_of, at_exponent as exponent_of, at_atom as atom_of, at_factor as factor_of, expression_after, term_at, IsWhole}
 
 -- the state after a token has read the token too
 took : {r s : State} {ts : List Token} → Reached r.mode r.outer ts → Some r ≡ Some s → Reached s.mode s.outer ts

@@ -1,13 +1,12 @@
 -- The grammar is unambiguous: tokens are an expression in one way.
-use Rattle.std.proofs.Common.{◌≡◌, ℕ, List, [], get_or, map, false, refl, sym, ap, ◌∙◌, Option, Some, None}
+use Rattle.std.proofs.Common.{◌≡◌, ℕ, List, [], get_or, false, refl, sym, ap, ◌∙◌, Option, Some}
 use Rattle.std.specs.Prelude.{option_and_then}
 use Rattle.rinv_text.specs.declared.token.Literal.{Literal}
-use Rattle.rinv_text.specs.declared.step.Step.{Step}
 use Rattle.rinv_text.specs.Tokens.{Token}
 use Rattle.rinv_text.specs.Grammar.{Tree, number, name, negative, sum, difference, product, power, expression, Derives}
 use Rattle.rinv_text.specs.Reading.{place_of}
-use Rattle.rinv_text.specs.Images.{kind_of, steps_of}
-use Rattle.rinv_text.specs.Automaton.{State, run, initial, finished}
+use Rattle.rinv_text.specs.Images.{steps_of}
+use Rattle.rinv_text.specs.Automaton.{finished}
 use Rattle.rinv_text.specs.Evaluation.{Algebra, outcome}
 use Rattle.rinv_text.proofs.Complete.{expression-runs}
 use Rattle.rinv_text.proofs.Postfix.{result, both, outcome-steps}

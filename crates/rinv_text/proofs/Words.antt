@@ -1,5 +1,5 @@
 -- The names in an expression are words among its tokens.
-use Rattle.std.proofs.Common.{◌≡◌, ℕ, suc, ◌+◌, List, [], ◌∷◌, ◌++◌, get_or, cond, not, true, false, Bool, refl, sym, ap, ◌∙◌, bytes_eq, Decides, arith}
+use Rattle.std.proofs.Common.{◌≡◌, ℕ, suc, ◌+◌, List, [], ◌∷◌, ◌++◌, get_or, cond, not, true, false, Bool, refl, sym, bytes_eq, Decides, arith}
 use Rattle.std.proofs.lemmas.Slice.Eq.{bytes_eq-Decides}
 use Rattle.rinv_text.specs.Tokens.{Token, numeral, word, plus, minus, times, caret, opening, closing, foreign}
 use Rattle.rinv_text.specs.Grammar.{Tree, number, name, negative, sum, difference, product, power, Level, Derives, a_number, a_name, in_parentheses, an_atom, a_power, a_factor, a_product, a_term, with_plus, with_minus, a_sum, a_difference}

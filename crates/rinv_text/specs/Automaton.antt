@@ -1,5 +1,5 @@
 -- The automaton that reads tokens, and puts the steps of the expression behind those that it has.
-use Rattle.std.specs.Prelude.{ℕ, List, [], ◌∷◌, ◌++◌, reverse, Bool, true, false, if◌then◌else◌, Option, Some, None, option_and_then, Result, Ok, Err, ok_or}
+use Rattle.std.specs.Prelude.{ℕ, List, [], ◌∷◌, ◌++◌, reverse, Bool, true, false, if◌then◌else◌, Option, Some, None, option_and_then, Result, Err, ok_or}
 use Rattle.rinv_text.specs.declared.token.Kind.{Kind}
 use Rattle.rinv_text.specs.declared.token.Kind.TheVariants.{Numeral, Word, Plus, Minus, Times, Caret, Opening, Closing}
 use Rattle.rinv_text.specs.declared.token.Placed.{Placed}

@@ -1,5 +1,5 @@
 -- How the reader sees tokens, and the steps of an expression.
-use Rattle.std.specs.Prelude.{ℕ, ◌^◌, min, List, [], ◌∷◌, ◌++◌, nat_le, nat_lt, if◌then◌else◌, Option, Some, None}
+use Rattle.std.specs.Prelude.{ℕ, ◌^◌, min, List, [], ◌∷◌, ◌++◌, nat_le}
 use Rattle.rinv_algebra.specs.Residue.{residue}
 use Rattle.rinv_text.specs.declared.token.Literal.{Literal}
 use Rattle.rinv_text.specs.declared.token.Kind.{Kind}
@@ -13,10 +13,6 @@ use Rattle.rinv_text.specs.Grammar.{Tree, number, name, negative, sum, differenc
 -- an exponent: 65 stands for all that are greater than 64
 abbrev pub exponent_of : ℕ → ℕ
 exponent_of n = min n 65
-
--- a number below 2^128
-abbrev pub within_u128 : ℕ → Option ℕ
-within_u128 n = if nat_lt n (2 ^ 128) then Some n else None
 
 -- a number modulo p, and as an exponent
 abbrev pub literal_of : ℕ → ℕ → Literal

@@ -1,5 +1,5 @@
 -- What the steps of an expression mean: polynomials, with bounds on their degrees.
-use Rattle.std.specs.Prelude.{ℕ, ◌+◌, ◌*◌, max, List, [], ◌∷◌, ◌++◌, nat_lt, nat_le, if◌then◌else◌, Option, Some, None}
+use Rattle.std.specs.Prelude.{ℕ, ◌+◌, ◌*◌, max, List, [], ◌∷◌, ◌++◌, nat_lt, nat_le, if◌then◌else◌, Some, None}
 use Rattle.rinv_algebra.specs.Residue.{residue_ops}
 use Rattle.rinv_algebra.specs.Polynomial.{Polynomial, opposite, product, constant, variable}
 use Rattle.rinv_text.specs.declared.partial.Partial.{Partial}

@@ -1,6 +1,7 @@
 //! Names of variables, and polynomials and fractions as text.
 #![tactic(auto)]
 
+mod digits;
 mod fault;
 mod form;
 mod fraction;
@@ -23,6 +24,7 @@ mod token;
 mod tokens;
 mod value;
 
+pub use digits::number;
 pub use fault::{TextCode, TextFault, TextStop};
 pub use form::{has_name_form, is_digit, is_letter};
 pub use fraction::write_fraction;

@@ -206,10 +206,7 @@ impl Parser {
                 self.mode = Mode::Start;
             }
             Action::Caret => self.mode = Mode::Exponent,
-            Action::Raise(exponent) => {
-                self.steps.push(Step::Power(exponent))?;
-                self.mode = Mode::Factor;
-            }
+            Action::Raise(exponent) => return self.raise(exponent),
             Action::Multiply => {
                 push_product(self.innermost.multiplies, &mut self.steps)?;
                 self.innermost.multiplies = true;
@@ -225,6 +222,15 @@ impl Parser {
             }
             Action::Close => return self.close(),
         }
+        Ok(true)
+    }
+
+    // Raises the last factor to a power.
+    fn raise(&mut self, exponent: u32) -> Result<bool, NoMemory>
+        ensures { IfOk result (λ b. performed (state_of self.old) (Action.Raise exponent) ≡ (if b then Some (state_of self.new) else None)) }
+    {
+        self.steps.push(Step::Power(exponent))?;
+        self.mode = Mode::Factor;
         Ok(true)
     }
 

@@ -6,8 +6,10 @@ ghost use Rattle.rinv_defs.specs.Names.{is_letter, is_digit};
 ghost use Rattle.rinv_text.specs.Tokens.{is_blank, is_name_byte, number_of, name_length, further_length, sign, token_of, tokens};
 ghost use Rattle.rinv_text.specs.Reading.{place_of};
 ghost use Rattle.rinv_text.specs.declared.token.Literal.{Literal};
-ghost use Rattle.rinv_text.specs.Images.{literal_of, kind_of, seen, within_u128};
+ghost use Rattle.rinv_text.specs.Images.{literal_of, kind_of, seen};
 
+use crate::digits::number;
+use crate::form::{is_digit, is_letter};
 use crate::names::Names;
 use crate::token::{Kind, Literal, Placed};
 use rinv_ring::Gf;
@@ -18,20 +20,6 @@ fn is_blank(byte: u8) -> bool
     ensures { result ≡ is_blank byte }
 {
     byte == b' ' || byte == b'\t'
-}
-
-// A decimal digit.
-fn is_digit(byte: u8) -> bool
-    ensures { result ≡ is_digit byte }
-{
-    byte.is_ascii_digit()
-}
-
-// A letter.
-fn is_letter(byte: u8) -> bool
-    ensures { result ≡ is_letter byte }
-{
-    byte.is_ascii_alphabetic()
 }
 
 // A letter, a digit or an underscore.
@@ -109,14 +97,6 @@ fn sign(byte: u8) -> Kind
     }
 }
 
-// The value with one digit more, unless it is 2^128 or more.
-fn appended(value: Option<u128>, digit: u8) -> Option<u128>
-    ensures { (n : ℕ) → value ≡ within_u128 n → result ≡ within_u128 (n * 10 + digit) }
-{
-    let tenfold = value?.checked_mul(10)?;
-    tenfold.checked_add(digit as u128)
-}
-
 // The number that the digits write.
 fn literal(digits: &[u8], field: &Gf) -> Literal
     ensures { result ≡ literal_of field.now (number_of digits.now) }
@@ -124,17 +104,15 @@ fn literal(digits: &[u8], field: &Gf) -> Literal
     let _p = field.modulus();
     let mut residue: u32 = 0;
     let mut exponent: u32 = 0;
-    let mut value = Some(0);
     for byte in digits {
         let digit = byte.saturating_sub(48);
         residue = field.reduce(residue as u128 * 10 + digit as u128);
         exponent = (exponent * 10 + digit as u32).min(65);
-        value = appended(value, digit);
     }
     Literal {
         residue,
         exponent,
-        is_too_great: value.is_none(),
+        is_too_great: number(digits).is_none(),
     }
 }
 

@@ -15,4 +15,4 @@ returns-then-not-is_new-clause-fault c =
 
 pub words-preserved : goal.words-preserved
 words-preserved c =
-    AreNewNames-more (λ w. w.now) c.args.words.now c.args.earlier.now c.words.names c.words.word-index _ c.as_text-text.result.now _ c.words-test.true c.as_text-text.ensures c.words.invariant.0 c.words.invariant.1 (sym c.is_new.ensures ∙ c.if-not-is_new.false) (c.in_ok-push.ensures ∙ ap (λ t. c.words.names ++ t ∷ []) c.in_ok-from_str.ensures.ok)
+    AreNewNames-more (λ w. w.now) c.args.words.now c.args.earlier.now c.words.names c.words.word-index _ c.as_text-text.result.now _ c.words-test.true c.as_text-text.ensures c.words.invariant.0 c.words.invariant.1 (sym c.is_new.ensures ∙ c.if-not-is_new.false) c.in_ok-push_name.ensures

@@ -8,11 +8,11 @@ use Rattle.rinv_system.proofs.read.read_lines.Goals as goal
 pub lines-init : goal.lines-init
 lines-init c = (HasTaken-none _ _ c.blank-draft.ensures, omega arith)
 
-pub with_line-requires-clause-reached : goal.with_line-requires-clause-reached
-with_line-requires-clause-reached c = (c.lines.invariant.0.0, c.lines.invariant.0.2)
+pub add_line-requires-clause-reached : goal.add_line-requires-clause-reached
+add_line-requires-clause-reached c = (c.lines.invariant.0.0, c.lines.invariant.0.2)
 
-pub with_line-requires-clause-short : goal.with_line-requires-clause-short
-with_line-requires-clause-short c =
+pub add_line-requires-clause-short : goal.add_line-requires-clause-short
+add_line-requires-clause-short c =
     let content : length c.content.result.now ≡ length (content_of c.first_line.result.0.now) = ap length c.content.ensures in
     let le : length c.first_line.result.0.now ≤ length c.lines.rest.now = first_line-short _ _ _ c.first_line.ensures.lines in
     omega (arith, content, content_of-short c.first_line.result.0.now, le, c.lines.invariant.1, c.requires.short)
@@ -24,7 +24,7 @@ returns-in-Err-clause-fault c = rw c.stop_at.ensures
 
 pub lines-preserved : goal.lines-preserved
 lines-preserved c = (
-  HasTaken-more c.args.text.now c.lines.rest.now c.first_line.result.0.now c.first_line.result.1.now c.lines.draft c.lines.count c.first_line.ensures.lines c.lines.invariant.0 c.in-Ok.next (rw (sym c.content.ensures) c.in-Ok.ensures.ok),
+  HasTaken-more c.args.text.now c.lines.rest.now c.first_line.result.0.now c.first_line.result.1.now c.lines.draft c.lines.count c.first_line.ensures.lines c.lines.invariant.0 c.add_line.new.draft (rw (sym c.content.ensures) c.in-Ok.ensures.ok),
   omega (arith, c.first_line.ensures.shorter, c.lines.invariant.1),
 )
 

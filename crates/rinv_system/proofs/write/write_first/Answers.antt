@@ -1,4 +1,4 @@
-use Rattle.std.proofs.Common.{◌≡◌, ◌++◌, ℕ, refl, ◌∷◌, [], subst, sym, codes, decimal}
+use Rattle.std.proofs.Common.{◌≡◌, ◌++◌, ℕ, refl, ◌∷◌, [], subst, codes, decimal}
 use Rattle.rinv_text.specs.Told.{Told}
 use Rattle.rinv_system.specs.Written.{first_lines, line_text, list_text, text_of}
 use Rattle.rinv_system.proofs.WrittenLists.{line-more, no-line}

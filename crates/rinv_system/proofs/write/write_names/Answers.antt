@@ -1,5 +1,5 @@
-use Rattle.std.proofs.Common.{◌≡◌, ◌∙◌, arith, ap, sym, refl}
-use Rattle.rinv_system.proofs.WrittenLists.{list-step, list-all}
+use Rattle.std.proofs.Common.{◌∙◌, arith, refl}
+use Rattle.rinv_system.proofs.WrittenLists.{list-step}
 use Rattle.rinv_system.proofs.write.write_names.Goals as goal
 
 pub names-preserved : goal.names-preserved

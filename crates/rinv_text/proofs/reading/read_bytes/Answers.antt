@@ -1,5 +1,4 @@
 use Rattle.std.proofs.Common.{◌≡◌, Err, length, ◌∙◌}
-use Rattle.rinv_text.specs.declared.token.Placed.{Placed}
 use Rattle.rinv_text.specs.declared.fault.TextFault.{TextFault}
 use Rattle.rinv_text.specs.declared.fault.TextCode.TheVariants.{Expression}
 use Rattle.rinv_text.specs.Automaton.{initial, parsed}

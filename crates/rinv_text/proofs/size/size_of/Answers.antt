@@ -1,4 +1,4 @@
-use Rattle.std.proofs.Common.{◌≡◌, ◌+◌, drop, [], ◌∷◌, List, All, Some, reverse, ap, sym, subst, ◌∙◌}
+use Rattle.std.proofs.Common.{◌+◌, drop, ◌∷◌, List, All, reverse, ap, sym, subst, ◌∙◌}
 use Rattle.std.proofs.lemmas.List.Elements.{All-push}
 use Rattle.rinv_text.specs.declared.size.Size.{Size}
 use Rattle.rinv_text.specs.Evaluation.{evaluate}

@@ -1,9 +1,8 @@
-use Rattle.std.proofs.Common.{◌≡◌, ℕ, ◌+◌, ◌-◌, ◌≤◌, List, [], ◌∷◌, ◌++◌, map, take, drop, get_or, length, ap, sym, subst, ◌∙◌, arith, append_assoc, length-drop, IsAscii, refl}
+use Rattle.std.proofs.Common.{◌≡◌, ℕ, ◌+◌, ◌≤◌, List, ◌∷◌, ◌++◌, map, take, drop, get_or, length, ap, sym, subst, ◌∙◌, arith, length-drop, IsAscii}
 use Rattle.std.proofs.lemmas.List.{append-nil}
 use Rattle.rinv_text.specs.Tokens.{Placed, tokens_after, further_length, token_of, token_at}
 use Rattle.rinv_text.specs.Reading.{place_of}
 use Rattle.rinv_text.specs.Images.{literal_of, kind_of, seen}
-use Rattle.rinv_text.specs.declared.token.Placed.{Placed as Seen}
 use Rattle.rinv_text.specs.declared.token.Kind.{Kind}
 use Rattle.rinv_text.proofs.Lexing.{tokens-blank, tokens-token, tokens-ended, rest-whole, put-behind, token-bytes, word-ascii}
 use Rattle.rinv_text.proofs.tokens.read_tokens.Goals as goal

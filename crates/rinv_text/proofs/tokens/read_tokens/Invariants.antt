@@ -1,4 +1,4 @@
-use Rattle.std.proofs.Common.{◌≡◌, ℕ, ◌-◌, ◌≤◌, ◌++◌, length, drop, map}
+use Rattle.std.proofs.Common.{◌≡◌, ◌-◌, ◌≤◌, ◌++◌, length, drop, map}
 use Rattle.rinv_text.specs.Tokens.{tokens, tokens_after}
 use Rattle.rinv_text.specs.Reading.{place_of}
 use Rattle.rinv_text.specs.Images.{literal_of, seen}

@@ -1,8 +1,8 @@
 use Rattle.std.proofs.Common.{reverse}
 use Rattle.rinv_algebra.specs.Residue.{residue_ops}
-use Rattle.std.proofs.Common.{◌≡◌, ◌∷◌, ◌*◌, ℕ, nat_le, subst, sym}
+use Rattle.std.proofs.Common.{◌∷◌, ◌*◌, nat_le, subst, sym}
 use Rattle.rinv_text.specs.Reading.{to_the}
-use Rattle.rinv_text.specs.Meanings.{Meaning, meanings, Piled}
+use Rattle.rinv_text.specs.Meanings.{meanings, Piled}
 use Rattle.rinv_text.specs.declared.partial.Partial.{Partial}
 use Rattle.std.proofs.Common.{List}
 use Rattle.rinv_text.proofs.Piles.{one-there, one-given, one-returns, along, if-some, may-raise}

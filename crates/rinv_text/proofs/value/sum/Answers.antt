@@ -1,8 +1,6 @@
-use Rattle.std.proofs.Common.{◌≡◌, ◌+◌, ◌++◌, max, reverse, nat_le}
-use Rattle.rinv_algebra.specs.Residue.{residue_ops}
-use Rattle.rinv_algebra.specs.Polynomial.{opposite, product}
+use Rattle.std.proofs.Common.{◌≡◌, ◌++◌, max, reverse}
 use Rattle.rinv_text.specs.Meanings.{meanings}
-use Rattle.rinv_text.proofs.Piles.{two-top, two-next, two-given, two-returns, partial-of, along, if-some, may-multiply}
+use Rattle.rinv_text.proofs.Piles.{two-top, two-next, two-returns, along}
 use Rattle.rinv_text.proofs.value.sum.Goals as goal
 
 pub take_top-right-requires : goal.take_top-right-requires

@@ -1,6 +1,6 @@
-use Rattle.std.proofs.Common.{◌≡◌, ◌∷◌, List, reverse, refl, sym, ap, subst, ◌∙◌}
+use Rattle.std.proofs.Common.{List, reverse, sym, subst, ◌∙◌}
 use Rattle.rinv_text.specs.declared.partial.Partial.{Partial}
-use Rattle.rinv_text.specs.Meanings.{Meaning, meanings, Piled}
+use Rattle.rinv_text.specs.Meanings.{meanings, Piled}
 use Rattle.rinv_text.proofs.Stepwise.{step-some, evaluate-on, outcome-end, pushed}
 use Rattle.rinv_text.proofs.Piles.{whole-there, whole-partial, whole-stands}
 use Rattle.rinv_text.proofs.value.value_of.Goals as goal
