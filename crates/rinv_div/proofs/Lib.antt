@@ -16,3 +16,4 @@ pub mod Spending
 pub mod DividedBy
 pub mod Rounds
 pub mod Halts
+pub mod Summed

@@ -67,6 +67,34 @@ impl<R: Ring> Divisors<R> {
     }
 }
 
+impl<R: Ring> Divisors<R> {
+    /// The leading monomial of the divisor at a place.
+    pub fn lead(&self, place: usize) -> &Mono
+        requires { place < length self.now.list.items }
+        ensures { (d : Divisor R R.Elem) → result.now ≡ (get_or self.now.list.items place d).lead }
+    {
+        &self.list[place].lead
+    }
+
+    /// Takes out the divisor at a place.
+    pub fn remove(&mut self, place: usize) -> Divisor<R>
+        requires { place < length self.old.list.items }
+        ensures taken { (d : Divisor R R.Elem) → result ≡ get_or self.old.list.items place d }
+        ensures left { self.new.list.items ≡ remove self.old.list.items place }
+    {
+        self.list.remove(place)
+    }
+
+    /// Puts a divisor in at a place.
+    pub fn insert(&mut self, place: usize, divisor: Divisor<R>) -> Result<(), NoMemory>
+        requires { place ≤ length self.old.list.items }
+        ensures { OnOk result (self.new.list.items ≡ insert self.old.list.items place divisor) }
+    {
+        self.list.insert(place, divisor)?;
+        Ok(())
+    }
+}
+
 impl<F: Field> Divisors<F> {
     /// Adds a polynomial, with the inverse of its leading coefficient.
     pub fn push<O: MonoOrder>(

@@ -4,6 +4,7 @@
 mod budget;
 mod dividing;
 mod divisors;
+pub mod laws;
 mod quotients;
 mod replacing;
 mod sorting;
