@@ -1,16 +1,14 @@
 //! Division: the greatest term that can be cancelled is cancelled, until there is none.
 
-ghost use Rattle.std.specs.Prelude.{◌≡◌, ◌<◌, ◌≤◌, ℕ, List, [], ◌∷◌, ◌++◌, false, true, length, reverse as reversed, get_or, map, All, IsTrue, IfOk, IfErr, OnOk};
-ghost use Rattle.std.specs.List.{AllZip};
+ghost use Rattle.std.specs.Prelude.{◌≡◌, List, false, All, IfOk, IfErr};
 ghost use Rattle.rinv_algebra.specs.Ring.{IsSame};
-ghost use Rattle.rinv_algebra.specs.Polynomial.{Polynomial, poly_ops, is_zero};
+ghost use Rattle.rinv_algebra.specs.Polynomial.{is_zero};
 ghost use Rattle.rinv_algebra.specs.Normal.{IsNormal};
 ghost use Rattle.rinv_algebra.specs.Leading.{leading_coefficient};
 ghost use Rattle.rinv_ring.specs.Fault.{DegreesMeet};
 ghost use Rattle.rinv_ring.specs.declared.fault.RingFault.TheVariants.{Degree};
 ghost use Rattle.rinv_groebner.specs.Division.{Step};
 ghost use Rattle.rinv_div.specs.Budgets.{IsWithin, KeepsOthers};
-ghost use Rattle.rinv_div.specs.Arranged.{IsArranged};
 ghost use Rattle.rinv_div.specs.Divisors.{AreDivisors};
 ghost use Rattle.rinv_div.specs.Stops.{Divides, DividesBy, RunsOut, MeetsDegree, StepsMeet, StopsBy};
 

@@ -1,6 +1,6 @@
 //! A turn of a division: the greatest term that is left is set aside, or cancelled by a step.
 
-ghost use Rattle.std.specs.Prelude.{◌≡◌, ◌<◌, ◌⊎◌, ℕ, List, [], ◌∷◌, ◌++◌, length, reverse as reversed, map, All, IsTrue, IfOk, IfErr, IfSome};
+ghost use Rattle.std.specs.Prelude.{◌≡◌, ◌<◌, ◌⊎◌, [], ◌∷◌, ◌++◌, length, reverse as reversed, map, IsTrue, IfOk, IfErr, IfSome};
 ghost use Rattle.rinv_algebra.specs.Ring.{IsSame};
 ghost use Rattle.rinv_algebra.specs.Monomial.{divides, quotient};
 ghost use Rattle.rinv_algebra.specs.Polynomial.{Polynomial, poly_ops};
@@ -10,7 +10,6 @@ ghost use Rattle.rinv_ring.specs.declared.fault.RingFault.TheVariants.{Degree};
 ghost use Rattle.rinv_poly.specs.Faults.{TermsMeet, OperationsMeet};
 ghost use Rattle.rinv_groebner.specs.Count.{count, reaches};
 ghost use Rattle.rinv_div.specs.Arranged.{IsArranged};
-ghost use Rattle.rinv_div.specs.Budgets.{IsWithin};
 ghost use Rattle.rinv_div.specs.Divisors.{AreDivisors};
 ghost use Rattle.rinv_div.specs.Rounds.{IsRound, Cancels};
 ghost use Rattle.rinv_div.specs.Stops.{RunsOut, MeetsDegree, StopsBy};
