@@ -1,5 +1,5 @@
 -- Lists by the place of their comma.
-use Rattle.std.proofs.Common.{◌≡◌, ℕ, ◌+◌, List, [], ◌∷◌, ◌++◌, suc, take, drop, length, Bool, true, false, ◌==◌, not, cond, Option, Some, None, if◌then◌else◌, refl, sym, ap, ◌∙◌, append_assoc, arith}
+use Rattle.std.proofs.Common.{◌≡◌, ℕ, ◌+◌, List, [], ◌∷◌, suc, take, drop, length, Bool, true, false, ◌==◌, not, cond, Option, Some, None, if◌then◌else◌, refl, sym, ap, ◌∙◌, arith}
 use Rattle.std.specs.List.{position_or_len}
 use Rattle.rinv_system.specs.Lines.{onto_first}
 use Rattle.rinv_system.specs.Entries.{entries_of}

@@ -1,4 +1,4 @@
-use Rattle.std.proofs.Common.{◌++◌, ◌∷◌, [], refl, sym, ap, ◌∙◌}
+use Rattle.std.proofs.Common.{refl, sym, ◌∙◌}
 use Rattle.rinv_system.specs.Forms.{AreNewNames}
 use Rattle.rinv_system.proofs.NameFacts.{AreNewNames-more, HasOldName-at, name_word-at}
 use Rattle.rinv_system.proofs.naming.new_names.Goals as goal
