@@ -19,6 +19,16 @@ pub record ProductMeets {E : Type 0} (o : RingOps E) (multiplier : List ℕ) (h 
   pub right : HasDegree o h y
   pub over : max_degree < x + y
 
+module _ {E : Type 0} (o : RingOps E) (cmp : List ℕ → List ℕ → Ordering) (hs : List (Polynomial E)) where
+  -- the next step multiplies two monomials of these degrees, or may meet them in an operation on coefficients
+  pub record NextMeets (too_high : RingOp → E → E → ℕ → ℕ → Type 0) (working : Polynomial E) (x y : ℕ) : Type 0 where
+    pub cancelled : List ℕ
+    pub place : ℕ
+    pub next : IsNext o cmp hs working cancelled place
+    pub multiplier : List ℕ
+    pub monomial : IsTrue (same_monomial (monomial_product multiplier (leading_monomial o cmp (get_or hs place []))) cancelled)
+    pub meets : ProductMeets o multiplier (get_or hs place []) x y ⊎ OperationsMeet too_high x y
+
 module _ {E : Type 0} (o : RingOps E) (cmp : List ℕ → List ℕ → Ordering) (hs : List (Polynomial E)) (f : Polynomial E) where
   -- steps divide f: they leave this rest, which is irreducible, and make these quotients
   pub record Divides (qs : List (Polynomial E)) (rest : Polynomial E) (steps : List (Step E)) : Type 0 where
@@ -46,27 +56,18 @@ module _ {E : Type 0} (o : RingOps E) (cmp : List ℕ → List ℕ → Ordering)
     pub has : IsTrue (has_monomial o working reducible)
     pub is_reducible : IsTrue (is_reducible o cmp hs reducible)
 
-  -- the next step multiplies two monomials of these degrees, or may meet them in an operation on coefficients
-  pub record NextMeets (too_high : RingOp → E → E → ℕ → ℕ → Type 0) (working : Polynomial E) (x y : ℕ) : Type 0 where
-    pub cancelled : List ℕ
-    pub place : ℕ
-    pub next : IsNext o cmp hs working cancelled place
-    pub multiplier : List ℕ
-    pub monomial : IsTrue (same_monomial (monomial_product multiplier (leading_monomial o cmp (get_or hs place []))) cancelled)
-    pub meets : ProductMeets o multiplier (get_or hs place []) x y ⊎ OperationsMeet too_high x y
-
   -- a stop at a degree: a step is left to spend, and the next one meets these degrees
   pub record MeetsDegree (too_high : RingOp → E → E → ℕ → ℕ → Type 0) (before after : Budget) (x y : ℕ) (working : Polynomial E) : Type 0 where
     pub so_far : Leaves before after working
     pub step_left : after.endless ≡ false → after.steps_spent < after.steps
-    pub meets : NextMeets too_high working x y
+    pub meets : NextMeets o cmp hs too_high working x y
 
   -- steps take f to a polynomial whose next step meets these degrees
   pub record StepsMeet (too_high : RingOp → E → E → ℕ → ℕ → Type 0) (x y : ℕ) : Type 0 where
     pub steps : List (Step E)
     pub working : Polynomial E
     pub by_steps : Steps o cmp hs f steps working
-    pub meets : NextMeets too_high working x y
+    pub meets : NextMeets o cmp hs too_high working x y
 
 -- a stop is of one of these kinds
 abbrev pub StopsBy : {R E : Type 0} → (Polynomial E → Type 0) → (ℕ → ℕ → Polynomial E → Type 0) → DivStop R E → Type 0

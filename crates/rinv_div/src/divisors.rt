@@ -1,6 +1,6 @@
 //! What is prepared of the polynomials by which is divided.
 
-ghost use Rattle.std.specs.Prelude.{◌≡◌, ◌<◌, ℕ, List, [], false, length, reverse as reversed, get_or, All, IsTrue, IfOk, OnOk, IfSome, IfNone};
+ghost use Rattle.std.specs.Prelude.{◌≡◌, ◌<◌, ◌≤◌, ℕ, List, [], false, length, reverse as reversed, get_or, remove, insert, All, IsTrue, IfOk, OnOk, IfSome, IfNone};
 ghost use Rattle.rinv_algebra.specs.Ring.{IsSame};
 ghost use Rattle.rinv_algebra.specs.Monomial.{divides};
 ghost use Rattle.rinv_algebra.specs.Polynomial.{is_zero, poly_ops};

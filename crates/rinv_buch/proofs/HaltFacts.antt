@@ -1,0 +1,121 @@
+-- Why the algorithm halts, from the parts of a halt and what the calls say.
+--   parts_stop           a stop whose parts have a property
+--   halts-idle, halts-in_division, halts-high    a pair that may not be taken, a division that stopped, a pair that is too high
+use Rattle.std.proofs.Common.{◌≡◌, ◌⊎◌, ℕ, ◌≤◌, ◌<◌, false, List, [], ◌∷◌, ◌++◌, length, map, refl, sym, ◌∙◌, ap, ap₂, subst, subst₂, inl, inr, arith, IsTrue}
+use Rattle.std.specs.Prelude.{IsFalse, ⊤}
+use Rattle.std.specs.declared.cmp.Ordering.{Ordering}
+use Rattle.rinv_algebra.specs.Ring.{RingOps}
+use Rattle.rinv_algebra.specs.Polynomial.{Polynomial, is_zero}
+use Rattle.rinv_algebra.specs.Leading.{leading_monomial}
+use Rattle.rinv_groebner.specs.Settled.{is_listed}
+use Rattle.rinv_groebner.specs.Journal.{Entry, pairs_of, IsOpen, Journal, IsAtWork}
+use Rattle.rinv_ring.specs.Operation.{RingOp}
+use Rattle.rinv_mono.specs.declared.fault.MonoFault.{MonoFault}
+use Rattle.rinv_mono.specs.declared.fault.MonoFault.TheVariants.{Degree as HighDegree, NoMemory as NoRoom}
+use Rattle.rinv_pairs.specs.High.{IsFirstHigh}
+use Rattle.rinv_div.specs.declared.budget.Budget.{Budget}
+use Rattle.rinv_div.specs.declared.stop.DivStop.{DivStop}
+use Rattle.rinv_div.specs.declared.stop.DivStop.TheVariants.{Steps as StepsStop, Degree as DegreeStop, NoMemory as MemoryStop}
+use Rattle.rinv_div.specs.Stops.{StopsBy}
+use Rattle.rinv_buch.specs.declared.kinds.Why.{Why}
+use Rattle.rinv_buch.specs.declared.kinds.Why.TheVariants.{Pairs, Steps, Degree}
+use Rattle.rinv_buch.specs.declared.kinds.Stop.{Stop}
+use Rattle.rinv_buch.specs.declared.kinds.Stop.TheVariants.{Incomplete, NoMemory}
+use Rattle.rinv_buch.specs.Kinds.{Halted}
+use Rattle.rinv_buch.specs.Spent.{IsKept, SpendsOn}
+use Rattle.rinv_buch.specs.Causes.{IsCause, Halts, StopsSo}
+use Rattle.rinv_buch.specs.Halting.{HasParts, IsOfFault, IsOfStop, IsHighPair, HaltsAtStart, HaltsAfter}
+use Rattle.rinv_buch.specs.Runs.{RunsOutAt, MeetsDegreeAt}
+use Rattle.rinv_buch.proofs.SpentTogether.{spends-steps, spends-entry}
+use Rattle.rinv_buch.proofs.RunsOfPairs.{first-meets}
+
+module _ {E : Type 0} where
+  abbrev pub halt : List (Polynomial E) → List Entry → Polynomial E → Why → Halted E
+  halt list journal f why = record { polys = list; journal = journal; working = f; why = why }
+
+  -- a weaker property
+  pub stop-weaker : {R : Type 0} (P Q : Halted E → Type 0) → ((h : Halted E) → P h → Q h) → (s : Stop R E) → StopsSo P s → StopsSo Q s
+  stop-weaker P Q k (Incomplete h) p = k h p
+  stop-weaker P Q k NoMemory p = tt
+
+  -- what holds of a halt with these parts
+  pub parts-stop : {R : Type 0} (P : Halted E → Type 0) (list : List (Polynomial E)) (journal : List Entry) (Q : Polynomial E → Why → Type 0) → ((f : Polynomial E) (y : Why) → Q f y → P (halt list journal f y)) → (s : Stop R E) → StopsSo (HasParts list journal Q) s → StopsSo P s
+  parts-stop P list journal Q k s p =
+      stop-weaker (HasParts list journal Q) P (λ h parts. subst P (ap₂ (λ (l : List (Polynomial E)) (j : List Entry). halt l j h.working h.why) (sym parts.polys) (sym parts.entries)) (k h.working h.why parts.rest)) s p
+
+module _ {E : Type 0} (o : RingOps E) (cmp : List ℕ → List ℕ → Ordering) where
+  -- a fault of the pairs of one element
+  pub high-pair : (list : List (Polynomial E)) (journal : List Entry) (leads : List (List ℕ)) (k : ℕ) → leads ≡ map (leading_monomial o cmp) list → k < length list → ((i : ℕ) → IsFalse (is_listed (pairs_of journal) i k)) → (fault : MonoFault) → IsFirstHigh leads k fault → (y : Why) → IsOfFault fault y → IsHighPair o cmp journal list y
+  high-pair list journal leads k of_list inside fresh (HighDegree x z) high y e = subst (IsHighPair o cmp journal list) (sym e) (first-meets o cmp list leads of_list journal k x z inside fresh high)
+  high-pair list journal leads k of_list inside fresh NoRoom high y e = absurd e
+
+module _ {E : Type 0} (o : RingOps E) (cmp : List ℕ → List ℕ → Ordering) (too_high : RingOp → E → E → ℕ → ℕ → Type 0) where
+  high-cause : (b : Budget) (journal : List Entry) (list : List (Polynomial E)) (f : Polynomial E) (why : Why) → IsTrue (is_zero o f) → IsHighPair o cmp journal list why → IsCause o cmp too_high b journal list f why
+  high-cause b journal list f (Degree x y) zero high = inl (zero, inl high)
+  high-cause b journal list f (Pairs i j) zero high = absurd high
+  high-cause b journal list f (Steps m) zero high = absurd high
+
+  module _ (given list : List (Polynomial E)) (journal : List Entry) (made : Journal o cmp given journal list) where
+    -- no pair may be taken, and this one is open
+    pub halts-idle : {R : Type 0} (start b : Budget) (i j : ℕ) → SpendsOn journal 0 start b → IsKept b → (b.endless ≡ false) × (b.pairs ≤ b.pairs_spent) → IsOpen o cmp journal list i j
+        → (s : Stop R E) → StopsSo (HasParts list journal (λ f y. IsTrue (is_zero o f) × (y ≡ Pairs i j))) s → StopsSo (Halts o cmp too_high given start b) s
+    halts-idle start b i j spent kept out open_pair s p = parts-stop (Halts o cmp too_high given start b) list journal (λ f y. IsTrue (is_zero o f) × (y ≡ Pairs i j))
+        (λ f y q. record {
+          journal = made;
+          taken = 0;
+          at_work = IsAtWork.idle f q.0;
+          spent = spent;
+          cause = subst (IsCause o cmp too_high b journal list f) (sym q.1) (out.0, omega (arith, kept.pairs out.0, out.1), q.0, open_pair);
+        }) s p
+
+    -- the division of an open pair stopped
+    pub halts-in_division : {R S : Type 0} (start a b : Budget) (i j : ℕ) → SpendsOn journal 0 start a → IsOpen o cmp journal list i j
+        → (stop : DivStop S E) → StopsBy (RunsOutAt o cmp list i j a b) (MeetsDegreeAt o cmp too_high list i j a b) stop
+        → (s : Stop R E) → StopsSo (HasParts list journal (IsOfStop o cmp list stop)) s → StopsSo (Halts o cmp too_high given start b) s
+    halts-in_division start a b i j spent open_pair stop at s p = parts-stop (Halts o cmp too_high given start b) list journal (IsOfStop o cmp list stop) (go stop at) s p
+      where
+        go : {S : Type 0} (stop : DivStop S E) → StopsBy (RunsOutAt o cmp list i j a b) (MeetsDegreeAt o cmp too_high list i j a b) stop → (f : Polynomial E) (y : Why) → IsOfStop o cmp list stop f y → Halts o cmp too_high given start b (halt list journal f y)
+        go (StepsStop left) at f y (e, m, why, can) =
+            let r = at.runs_out in
+            subst₂ (λ (f : Polynomial E) (y : Why). Halts o cmp too_high given start b (halt list journal f y)) (sym e) (sym why) (record {
+              journal = made;
+              taken = length r.so_far.steps;
+              at_work = IsAtWork.dividing i j r.so_far.steps left open_pair at.not_coprime r.so_far.by_steps;
+              spent = spends-steps journal (length r.so_far.steps) spent r.so_far.spent;
+              cause = (r.endless, r.all_spent, can.has, can.reducible);
+            })
+        go (DegreeStop x z left) at f y (e, why) = subst₂ (λ (f : Polynomial E) (y : Why). Halts o cmp too_high given start b (halt list journal f y)) (sym e) (sym why) (elim at.meets [
+          | inl (zero, none, meets) ↦ record {
+            journal = made;
+            taken = 0;
+            at_work = IsAtWork.idle left zero;
+            spent = spends-steps journal 0 spent none;
+            cause = inl (zero, inr (record { first = i; second = j; open_pair = open_pair; not_coprime = at.not_coprime; meets = meets }));
+          }
+          | inr d ↦ record {
+            journal = made;
+            taken = length d.so_far.steps;
+            at_work = IsAtWork.dividing i j d.so_far.steps left open_pair at.not_coprime d.so_far.by_steps;
+            spent = spends-steps journal (length d.so_far.steps) spent d.so_far.spent;
+            cause = inr d.meets;
+          }
+        ])
+        go MemoryStop at f y q = absurd q
+
+  pub start-halts : {R : Type 0} (given : List (Polynomial E)) (b : Budget) → SpendsOn [] 0 b b → (s : Stop R E) → StopsSo (HaltsAtStart o cmp given) s → StopsSo (Halts o cmp too_high given b b) s
+  start-halts given b spent s p = stop-weaker (HaltsAtStart o cmp given) (Halts o cmp too_high given b b) (λ h a. record {
+    journal = a.journal;
+    taken = 0;
+    at_work = IsAtWork.idle h.working a.idle;
+    spent = subst (λ (j : List Entry). SpendsOn j 0 b b) (sym a.empty) spent;
+    cause = high-cause b h.journal h.polys h.working h.why a.idle a.high;
+  }) s p
+
+  pub after-halts : {R : Type 0} (given : List (Polynomial E)) (journal : List Entry) (count : ℕ) (start b : Budget) → ((e : Entry) → e.steps ≡ count → SpendsOn (journal ++ e ∷ []) 0 start b) → (s : Stop R E) → StopsSo (HaltsAfter o cmp given journal count) s → StopsSo (Halts o cmp too_high given start b) s
+  after-halts given journal count start b spent s p = stop-weaker (HaltsAfter o cmp given journal count) (Halts o cmp too_high given start b) (λ h a. record {
+    journal = a.journal;
+    taken = 0;
+    at_work = IsAtWork.idle h.working a.idle;
+    spent = subst (λ (j : List Entry). SpendsOn j 0 start b) (sym a.entries) (spent a.entry a.steps);
+    cause = high-cause b h.journal h.polys h.working h.why a.idle a.high;
+  }) s p

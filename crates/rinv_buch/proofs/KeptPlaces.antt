@@ -1,0 +1,151 @@
+-- Which elements are kept, place by place.
+--   stands_against       whether the monomial at a place stands against another being kept
+--   kept-none, kept-all  a place is kept where no place stands against it
+--   kept_place-is        the monomial's place is kept where the element is
+--   kept-next, kept-past, kept-end    the kept elements after one more, and at the end
+use Rattle.std.proofs.Common.{◌≡◌, ℕ, ◌<◌, ◌≤◌, ◌+◌, Bool, true, false, not, ◌&&◌, ◌||◌, List, [], ◌∷◌, ◌++◌, length, map, take, drop, get_or, refl, sym, ◌∙◌, ap, ap₂, cond, subst₂, ◌⊎◌, inl, inr, arith, All, true≢false}
+use Rattle.std.specs.Prelude.{nat_lt}
+use Rattle.std.specs.List.{list_any}
+use Rattle.std.specs.declared.cmp.Ordering.{Ordering}
+use Rattle.std.proofs.lemmas.Bool.{cases_Bool}
+use Rattle.std.proofs.lemmas.Bool.Decides.{nat_tests}
+use Rattle.std.proofs.lemmas.List.{take-map, take_more, drop_more, get_or-map, get_or-take, length-take, append_assoc, append-nil, drop_all}
+use Rattle.std.proofs.lemmas.List.Elements.{All-from_get_or}
+use Rattle.std.proofs.lemmas.List.Folds.{list_any_none, list_any_at}
+use Rattle.rinv_algebra.specs.Ring.{RingOps}
+use Rattle.rinv_algebra.specs.Monomial.{divides, same_monomial}
+use Rattle.rinv_algebra.specs.Polynomial.{Polynomial}
+use Rattle.rinv_algebra.specs.Leading.{leading_monomial}
+use Rattle.rinv_algebra.proofs.MonomialLaws.{same_at, same_from, same_monomial_sym}
+use Rattle.rinv_algebra.proofs.Same.{and_true}
+use Rattle.rinv_groebner.specs.Reduced.{is_kept, kept, kept_after}
+use Rattle.rinv_groebner.proofs.MonomialLists.{divides_at, divides_from}
+use Rattle.rinv_buch.specs.Reducing.{is_kept_place}
+
+-- two monomials are one where each divides the other
+same-both : (a b : List ℕ) → divides a b ≡ true → divides b a ≡ true → same_monomial a b ≡ true
+same-both a b p q = same_from a b (λ k. let x = divides_at a b p k in let y = divides_at b a q k in omega (arith, x, y))
+
+divides-same : (a b : List ℕ) → same_monomial a b ≡ true → divides a b ≡ true
+divides-same a b s = divides_from a b (λ k. let x = same_at a b s k in omega (arith, x))
+
+-- whether the monomial at k stands against keeping the one at the place: it divides that, and is earlier or another
+abbrev pub stands_against : List (List ℕ) → ℕ → ℕ → Bool
+stands_against ms place k = divides (get_or ms k []) (get_or ms place []) && (nat_lt k place || not (divides (get_or ms place []) (get_or ms k [])))
+
+first-off : (d e r s : Bool) → (d && (e || not r)) ≡ false → (d ≡ true → r ≡ true → s ≡ true) → (d && not s) ≡ false
+first-off false e r s h u = refl
+first-off true e r true h u = refl
+first-off true e true false h u = sym (u refl refl)
+first-off true true false false h u = h
+first-off true false false false h u = h
+
+second-off : (d e r s : Bool) → (d && (e || not r)) ≡ false → e ≡ true → (s ≡ true → d ≡ true) → s ≡ false
+second-off d e r false h t u = refl
+second-off false e r true h t u = sym (u refl)
+second-off true true r true h t u = h
+second-off true false r true h t u = sym t
+
+second-on : (d e r : Bool) → (d && (e || not r)) ≡ true → r ≡ true → (d ≡ true) × (e ≡ true)
+second-on false e r h t = absurd (true≢false (sym h))
+second-on true true r h t = (refl, refl)
+second-on true false true h t = absurd (true≢false (sym h))
+second-on true false false h t = absurd (true≢false (sym t))
+
+first-on : (d e r s : Bool) → (d && (e || not r)) ≡ true → s ≡ false → (d && not s) ≡ true
+first-on d e r true h t = absurd (true≢false t)
+first-on true e r false h t = refl
+first-on false e r false h t = h
+
+off-first : (a b : Bool) → a ≡ true → (not a && not b) ≡ false
+off-first true b e = refl
+off-first false b e = absurd (true≢false (sym e))
+
+off-second : (a b : Bool) → b ≡ true → (not a && not b) ≡ false
+off-second true b e = refl
+off-second false true e = refl
+off-second false false e = sym e
+
+module _ (ms : List (List ℕ)) (place : ℕ) where
+  abbrev mono : List ℕ
+  mono = get_or ms place []
+
+  abbrev properly : List ℕ → Bool
+  properly m = divides m mono && not (same_monomial m mono)
+
+  abbrev again : List ℕ → Bool
+  again m = same_monomial m mono
+
+  -- where a place stands against it, it is not kept
+  pub kept-none : (k : ℕ) → k < length ms → stands_against ms place k ≡ true → is_kept_place ms place ≡ false
+  kept-none k low e = elim (cases_Bool (again m)) [
+    | inl same ↦
+        let on = second-on (divides m mono) (nat_lt k place) (divides mono m) e (divides-same mono m (same_monomial_sym m mono same)) in
+        let early : k < place = grind (arith, nat_tests, on.1) in
+        let short = length-take place ms in
+        off-second (list_any properly ms) _ (list_any_at again (take place ms) k [] (omega (arith, early, low, short)) (ap again (get_or-take place ms k [] early) ∙ same))
+    | inr other ↦ off-first _ (list_any again (take place ms)) (list_any_at properly ms k [] low (first-on (divides m mono) (nat_lt k place) (divides mono m) (again m) e other))
+  ]
+    where
+      m : List ℕ
+      m = get_or ms k []
+
+  -- where none does, it is
+  pub kept-all : ((k : ℕ) → k < length ms → stands_against ms place k ≡ false) → is_kept_place ms place ≡ true
+  kept-all none = rw (first, second) refl
+    where
+      first : list_any properly ms ≡ false
+      first = list_any_none properly ms (All-from_get_or (λ m. properly m ≡ false) ms [] (λ k low.
+          first-off (divides (get_or ms k []) mono) (nat_lt k place) (divides mono (get_or ms k [])) (again (get_or ms k [])) (none k low) (same-both (get_or ms k []) mono)))
+
+      second : list_any again (take place ms) ≡ false
+      second = list_any_none again (take place ms) (All-from_get_or (λ m. again m ≡ false) (take place ms) [] (λ k low.
+          let short = length-take place ms in
+          let early : k < place = omega (arith, low, short) in
+          ap again (get_or-take place ms k [] early)
+          ∙ second-off (divides (get_or ms k []) mono) (nat_lt k place) (divides mono (get_or ms k [])) (again (get_or ms k [])) (none k (omega (arith, low, short))) (grind (arith, nat_tests, early)) (divides-same (get_or ms k []) mono)))
+
+-- a place stands against another by the tests on the two monomials
+pub against : (ms : List (List ℕ)) (place k : ℕ) (m p : List ℕ) → m ≡ get_or ms k [] → p ≡ get_or ms place [] → divides m p ≡ true → (nat_lt k place ≡ true) ⊎ (not (divides p m) ≡ true) → stands_against ms place k ≡ true
+against ms place k m p e f d why = subst₂ (λ (m p : List ℕ). (divides m p && (nat_lt k place || not (divides p m))) ≡ true) e f (and_true (divides m p) _ d (elim why [ inl early ↦ rw early refl | inr other ↦ or_second (nat_lt k place) (not (divides p m)) other ]))
+  where
+    or_second : (a b : Bool) → b ≡ true → (a || b) ≡ true
+    or_second true b e = refl
+    or_second false b e = e
+
+list_any-mapped : {X Y : Type 0} (test : Y → Bool) (f : X → Y) (xs : List X) → list_any test (map f xs) ≡ list_any (λ x. test (f x)) xs
+list_any-mapped test f [] = refl
+list_any-mapped test f (x ∷ xs) = ap (λ b. test (f x) || b) (list_any-mapped test f xs)
+
+module _ {E : Type 0} (o : RingOps E) (cmp : List ℕ → List ℕ → Ordering) (hs : List (Polynomial E)) where
+  -- the monomial's place is kept where the element is
+  pub kept_place-is : (k : ℕ) → k < length hs → is_kept_place (map (leading_monomial o cmp) hs) k ≡ is_kept o cmp hs (take k hs) (get_or hs k [])
+  kept_place-is k inside =
+      rw (get_or-map (leading_monomial o cmp) hs k [] [] inside, take-map (leading_monomial o cmp) k hs)
+      (ap₂ (λ a b. not a && not b)
+      (list_any-mapped (λ m. divides m (leading_monomial o cmp (get_or hs k [])) && not (same_monomial m (leading_monomial o cmp (get_or hs k [])))) (leading_monomial o cmp) hs)
+      (list_any-mapped (λ m. same_monomial m (leading_monomial o cmp (get_or hs k []))) (leading_monomial o cmp) (take k hs)))
+
+  module _ (k : ℕ) (h : Polynomial E) (inside : k < length hs) (at : h ≡ get_or hs k []) (ks : List (Polynomial E)) (so_far : ks ++ kept_after o cmp hs (take k hs) (drop k hs) ≡ kept o cmp hs) where
+    one_more : (b : Bool) → is_kept o cmp hs (take k hs) h ≡ b
+        → kept_after o cmp hs (take k hs) (drop k hs) ≡ cond b (h ∷ kept_after o cmp hs (take (k + 1) hs) (drop (k + 1) hs)) (kept_after o cmp hs (take (k + 1) hs) (drop (k + 1) hs))
+    unfolding kept_after
+    one_more b e =
+        ap (kept_after o cmp hs (take k hs)) (drop_more hs k [] inside ∙ ap (λ (x : Polynomial E). x ∷ drop (k + 1) hs) (sym at))
+        ∙ ap (λ (r : List (Polynomial E)). cond (is_kept o cmp hs (take k hs) h) (h ∷ kept_after o cmp hs r (drop (k + 1) hs)) (kept_after o cmp hs r (drop (k + 1) hs))) (ap (λ (x : Polynomial E). take k hs ++ x ∷ []) at ∙ sym (take_more hs k [] inside))
+        ∙ ap (λ (b : Bool). cond b (h ∷ kept_after o cmp hs (take (k + 1) hs) (drop (k + 1) hs)) (kept_after o cmp hs (take (k + 1) hs) (drop (k + 1) hs))) e
+
+    -- one more that is kept
+    pub kept-next : is_kept o cmp hs (take k hs) h ≡ true → (after : List (Polynomial E)) → after ≡ ks ++ h ∷ [] → after ++ kept_after o cmp hs (take (k + 1) hs) (drop (k + 1) hs) ≡ kept o cmp hs
+    kept-next e after put =
+        ap (λ (r : List (Polynomial E)). r ++ kept_after o cmp hs (take (k + 1) hs) (drop (k + 1) hs)) put
+        ∙ append_assoc ks (h ∷ []) (kept_after o cmp hs (take (k + 1) hs) (drop (k + 1) hs)) ∙ ap (λ (r : List (Polynomial E)). ks ++ r) (sym (one_more true e)) ∙ so_far
+
+    -- one that is not
+    pub kept-past : is_kept o cmp hs (take k hs) h ≡ false → ks ++ kept_after o cmp hs (take (k + 1) hs) (drop (k + 1) hs) ≡ kept o cmp hs
+    kept-past e = ap (λ (r : List (Polynomial E)). ks ++ r) (sym (one_more false e)) ∙ so_far
+
+  -- at the end
+  pub kept-end : (k : ℕ) → length hs ≤ k → (ks : List (Polynomial E)) → ks ++ kept_after o cmp hs (take k hs) (drop k hs) ≡ kept o cmp hs → ks ≡ kept o cmp hs
+  unfolding kept_after
+  kept-end k end ks so_far = sym (append-nil ks) ∙ ap (λ (r : List (Polynomial E)). ks ++ kept_after o cmp hs (take k hs) r) (sym (drop_all k hs end)) ∙ so_far

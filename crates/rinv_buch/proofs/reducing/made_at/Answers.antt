@@ -1,0 +1,40 @@
+use Rattle.std.proofs.Common.{◌≡◌, ◌∙◌, refl, arith, []}
+use Rattle.std.proofs.lemmas.List.{get_or_read}
+use Rattle.rinv_buch.proofs.Inserted.{orders_in}
+use Rattle.rinv_buch.proofs.Makings.{division-at, made-at, rest_remains}
+use Rattle.rinv_buch.proofs.TakenOut.{put-back, divisors-taken, divisors-nonzero, prepared-same}
+use Rattle.rinv_buch.proofs.reducing.made_at.Goals as goal
+
+pub rest_of-requires-clause-divisors : goal.rest_of-requires-clause-divisors
+rest_of-requires-clause-divisors g c =
+    rw (c.deref.ensures.value, c.remove-element.ensures.items, c.remove-divisor.ensures.left)
+    (divisors-taken (g.F.Ring.ops c.args.ring.now.coeffs) (g.F.Ring.is_element c.args.ring.now.coeffs) c.args.ring.now.vars (g.O.MonoOrder.cmp c.args.order.now) c.args.elements.now.polys.items c.args.elements.now.divisors.list.items c.args.place c.requires.inside c.requires.prepared.divisors)
+
+pub monic-requires-clause-nonzero : goal.monic-requires-clause-nonzero
+monic-requires-clause-nonzero g c =
+    let o = g.F.Ring.ops c.args.ring.now.coeffs in
+    let l = g.F.Ring.laws c.args.ring.now.coeffs in
+    let e = g.F.Ring.is_element c.args.ring.now.coeffs in
+    let v = c.args.ring.now.vars in
+    let cmp = g.O.MonoOrder.cmp c.args.order.now in
+    let hs = c.args.elements.now.polys.items in
+    let order = orders_in cmp (g.O.MonoOrder.fits c.args.order.now) (g.O.MonoOrder.laws c.args.order.now) (g.O.MonoOrder.ties c.args.order.now) v c.requires.suits in
+    let taken = get_or_read hs c.args.place c.remove-element.result c.requires.inside c.remove-element.ensures.value [] in
+    let d = division-at o l cmp hs c.deref.result.now c.args.place c.remove-element.result c.in_ok-rest.rest (c.deref.ensures.value ∙ c.remove-element.ensures.items) taken c.in_ok-rest.ensures.rest in
+    (rest_remains o l cmp e v order hs c.requires.prepared.normal (divisors-nonzero o e v cmp hs c.args.elements.now.divisors.list.items c.requires.prepared.divisors) c.requires.apart c.args.place c.requires.inside d.0 c.in_ok-rest.rest d.1).nonzero
+
+pub returns-clause-prepared : goal.returns-clause-prepared
+returns-clause-prepared g c =
+    prepared-same (g.F.Ring.ops c.args.ring.now.coeffs) (g.F.Ring.is_element c.args.ring.now.coeffs) c.args.ring.now.vars (g.O.MonoOrder.cmp c.args.order.now) c.args.elements.now _ c.requires.prepared
+    (put-back c.args.elements.now.polys.items c.remove-element.new.self.items c.insert.new.self.items c.args.place c.remove-element.result c.requires.inside c.remove-element.ensures.value c.remove-element.ensures.items c.in_ok-insert.ensures.items)
+    refl
+    (put-back c.args.elements.now.divisors.list.items c.remove-divisor.new.self.list.items c.insert-2.new.self.list.items c.args.place c.remove-divisor.result (omega (arith, c.requires.inside, c.requires.prepared.divisors.number)) (c.remove-divisor.ensures.taken c.remove-divisor.result) c.remove-divisor.ensures.left c.in_ok-insert-2.ensures)
+
+pub returns-clause-same : goal.returns-clause-same
+returns-clause-same g c = put-back c.args.elements.now.polys.items c.remove-element.new.self.items c.insert.new.self.items c.args.place c.remove-element.result c.requires.inside c.remove-element.ensures.value c.remove-element.ensures.items c.in_ok-insert.ensures.items
+
+pub returns-clause-made : goal.returns-clause-made
+returns-clause-made g c =
+    let hs = c.args.elements.now.polys.items in
+    made-at (g.F.Ring.ops c.args.ring.now.coeffs) (g.F.Ring.laws c.args.ring.now.coeffs) (g.O.MonoOrder.cmp c.args.order.now) hs c.deref.result.now c.args.place c.remove-element.result c.in_ok-rest.rest (c.deref.ensures.value ∙ c.remove-element.ensures.items)
+    (get_or_read hs c.args.place c.remove-element.result c.requires.inside c.remove-element.ensures.value []) c.in_ok-rest.ensures.rest c.in_ok-made.made c.in_ok-made.ensures.monic

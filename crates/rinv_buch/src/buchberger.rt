@@ -1,0 +1,129 @@
+//! Buchberger's algorithm: pair after pair, until each has its entry in the journal.
+
+ghost use Rattle.std.specs.Prelude.{◌≡◌, ◌<◌, ◌≤◌, ℕ, List, [], length, All, IfOk, IfErr};
+ghost use Rattle.rinv_algebra.specs.Polynomial.{Polynomial};
+ghost use Rattle.rinv_algebra.specs.Normal.{IsNormal};
+ghost use Rattle.rinv_groebner.specs.Journal.{Journal, IsComplete};
+ghost use Rattle.rinv_groebner.specs.Basis.{IsGroebnerBasis, AreNonzero};
+ghost use Rattle.rinv_div.specs.declared.budget.Budget.{Budget};
+ghost use Rattle.rinv_buch.specs.Causes.{Halts, StopsSo};
+ghost use Rattle.rinv_buch.specs.Halting.{HaltsAfter};
+ghost use Rattle.rinv_buch.specs.Kinds.{journal_of};
+ghost use Rattle.rinv_buch.specs.Runs.{IsRun, IsTaking, Turns, Settles, SettlesWith, steps_with};
+ghost use Rattle.rinv_buch.specs.Spent.{IsKept, KeepsLimits, SpendsBoth, SpendsOn};
+
+use crate::elements::Elements;
+use crate::halting::{halted_at_pair, halted_idle, halted_in_division};
+use crate::kinds::{Basis, Stop, Why};
+use crate::run::{Run, begun, enter, place};
+use crate::settling::{Outcome, settle};
+use crate::spending::{count_pair, is_out_of_pairs};
+use rinv_div::Budget;
+use rinv_mono::MonoOrder;
+use rinv_pairs::Pair;
+use rinv_poly::{Poly, PolyRing};
+use rinv_ring::{Field, Ring};
+use std::alloc::Global;
+
+/// A Gröbner basis of the ideal of the polynomials given, with its journal. The list begins with those that are not zero; each pair is
+/// taken once, and each rest that is not zero is added. What was spent is counted in the budget, also where the algorithm halts.
+pub fn basis<F: Field, O: MonoOrder>(
+    ring: &PolyRing<F>,
+    alloc: Global,
+    given: &[Poly<F>],
+    order: &O,
+    budget: &mut Budget,
+) -> Result<Basis<F>, Stop<F>>
+    requires given { All (IsNormal (F.ops ring.now.coeffs) (F.is_element ring.now.coeffs) ring.now.vars) given.now }
+    requires suits { O.fits order.now ring.now.vars }
+    requires within { IsKept budget.old }
+    ensures journal { IfOk result (λ b. Journal (F.ops ring.now.coeffs) (O.cmp order.now) given.now b.journal b.polys) }
+    ensures complete { IfOk result (λ b. IsComplete (F.ops ring.now.coeffs) (O.cmp order.now) b.journal b.polys) }
+    ensures spent { IfOk result (λ b. SpendsOn b.journal 0 budget.old budget.new) }
+    ensures polys { IfOk result (λ b. All (IsNormal (F.ops ring.now.coeffs) (F.is_element ring.now.coeffs) ring.now.vars) b.polys) }
+    ensures nonzero { IfOk result (λ b. AreNonzero (F.ops ring.now.coeffs) b.polys) }
+    ensures groebner { IfOk result (λ b. IsGroebnerBasis (F.ops ring.now.coeffs) (O.cmp order.now) ring.now.vars given.now b.polys) }
+    ensures stop { IfErr result (StopsSo (Halts (F.ops ring.now.coeffs) (O.cmp order.now) (F.too_high ring.now.coeffs) given.now budget.old budget.new)) }
+    ensures limits { KeepsLimits budget.old budget.new }
+    ensures still_within { IsKept budget.new }
+{
+    let _pairs_spent = budget.pairs_spent;
+    let _steps_spent = budget.steps_spent;
+    let mut run = begun(ring, alloc, given, order)?;
+    'pairs: while let Some(pair) = run.queue.take() {
+        run = turn(ring, alloc, pair, order, run, budget)?;
+    }
+    Ok(found(run))
+}
+
+// One pair: it is settled and entered, or the run halts at it.
+fn turn<F: Field, O: MonoOrder>(
+    ring: &PolyRing<F>,
+    alloc: Global,
+    pair: Pair,
+    order: &O,
+    run: Run<F>,
+    budget: &mut Budget,
+) -> Result<Run<F>, Stop<F>>
+    requires suits { O.fits order.now ring.now.vars }
+    requires taking { IsTaking (F.ops ring.now.coeffs) (F.is_element ring.now.coeffs) ring.now.vars (O.cmp order.now) pair.first pair.second run }
+    requires within { IsKept budget.old }
+    ensures run { (given : List (Polynomial F.Elem)) → Journal (F.ops ring.now.coeffs) (O.cmp order.now) given (journal_of run.journal.items) run.elements.polys.items → IfOk result (IsRun (F.ops ring.now.coeffs) (F.is_element ring.now.coeffs) ring.now.vars (O.cmp order.now) given) }
+    ensures turns { IfOk result (λ r. (count : ℕ) × SpendsBoth 1 count budget.old budget.new × Turns (F.ops ring.now.coeffs) (O.cmp order.now) count run r) }
+    ensures stop { (given : List (Polynomial F.Elem)) (start : Budget) → Journal (F.ops ring.now.coeffs) (O.cmp order.now) given (journal_of run.journal.items) run.elements.polys.items → SpendsOn (journal_of run.journal.items) 0 start budget.old → IfErr result (StopsSo (Halts (F.ops ring.now.coeffs) (O.cmp order.now) (F.too_high ring.now.coeffs) given start budget.new)) }
+    ensures limits { KeepsLimits budget.old budget.new }
+    ensures still_within { IsKept budget.new }
+{
+    if is_out_of_pairs(budget) {
+        let (first, second) = (pair.first, pair.second);
+        let why = Why::Pairs { first, second };
+        return Err(halted_idle(ring, alloc, run, why));
+    }
+    let outcome = match settle(ring, alloc, &run.elements, pair, order, budget) {
+        Ok(outcome) => outcome,
+        Err(stop) => return Err(halted_in_division(ring, alloc, order, run, stop)),
+    };
+    count_pair(budget);
+    entered(ring, alloc, pair, outcome, order, run)
+}
+
+// The run after a pair, with the pairs of a rest that was added; it halts where one of these is too high.
+fn entered<F: Field, O: MonoOrder>(
+    ring: &PolyRing<F>,
+    alloc: Global,
+    pair: Pair,
+    outcome: Outcome<F>,
+    order: &O,
+    run: Run<F>,
+) -> Result<Run<F>, Stop<F>>
+    requires suits { O.fits order.now ring.now.vars }
+    requires taking { IsTaking (F.ops ring.now.coeffs) (F.is_element ring.now.coeffs) ring.now.vars (O.cmp order.now) pair.first pair.second run }
+    requires settled { Settles (F.ops ring.now.coeffs) (O.cmp order.now) run.elements.polys.items pair.first pair.second outcome }
+    requires rest { SettlesWith (IsNormal (F.ops ring.now.coeffs) (F.is_element ring.now.coeffs) ring.now.vars) outcome }
+    ensures run { (given : List (Polynomial F.Elem)) → Journal (F.ops ring.now.coeffs) (O.cmp order.now) given (journal_of run.journal.items) run.elements.polys.items → IfOk result (IsRun (F.ops ring.now.coeffs) (F.is_element ring.now.coeffs) ring.now.vars (O.cmp order.now) given) }
+    ensures turns { IfOk result (Turns (F.ops ring.now.coeffs) (O.cmp order.now) (steps_with outcome) run) }
+    ensures stop { (given : List (Polynomial F.Elem)) → Journal (F.ops ring.now.coeffs) (O.cmp order.now) given (journal_of run.journal.items) run.elements.polys.items → IfErr result (StopsSo (HaltsAfter (F.ops ring.now.coeffs) (O.cmp order.now) given (journal_of run.journal.items) (steps_with outcome))) }
+{
+    let mut run = run;
+    let added = place(run.elements.polys.len())?;
+    if enter(ring, alloc, pair, outcome, order, &mut run)? {
+        if let Err(fault) = run.queue.add_element(&run.elements.leads, added) {
+            return Err(halted_at_pair(ring, alloc, run, fault));
+        }
+    }
+    Ok(run)
+}
+
+// The list and the journal of the run.
+fn found<F: Field>(run: Run<F>) -> Basis<F>
+    ensures polys { result.polys ≡ run.elements.polys.items }
+    ensures journal { result.journal ≡ journal_of run.journal.items }
+{
+    let Run {
+        elements,
+        journal,
+        ..
+    } = run;
+    let Elements { polys, .. } = elements;
+    Basis { polys, journal }
+}

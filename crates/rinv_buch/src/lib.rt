@@ -1,0 +1,20 @@
+//! Gröbner bases: Buchberger's algorithm with a journal and a budget, and the reduced basis.
+#![tactic(auto)]
+
+pub mod kinds;
+
+mod buchberger;
+mod elements;
+mod halting;
+mod reducing;
+mod run;
+mod s_polynomial;
+mod settling;
+mod spending;
+
+pub use buchberger::basis;
+pub use kinds::{Basis, Entry, EntryKind, Halt, Stop, Why};
+pub use reducing::interreduce;
+
+#[cfg(test)]
+mod tests;

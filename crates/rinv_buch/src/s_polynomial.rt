@@ -1,0 +1,97 @@
+//! The S-polynomial of two polynomials: multiples whose leading terms cancel.
+
+ghost use Rattle.std.specs.Prelude.{◌≡◌, ◌≤◌, ◌+◌, ◌⊎◌, ℕ, List, [], ◌∷◌, length, false, IsTrue, IfOk, IfErr, IfSome};
+ghost use Rattle.rinv_algebra.specs.Ring.{IsSame};
+ghost use Rattle.rinv_algebra.specs.Monomial.{lcm, total_degree, max_degree};
+ghost use Rattle.rinv_algebra.specs.Polynomial.{Term, poly_ops, term_product, is_zero};
+ghost use Rattle.rinv_algebra.specs.Normal.{IsNormal};
+ghost use Rattle.rinv_algebra.specs.Leading.{leading_monomial, leading_coefficient, multiplier, s_polynomial};
+ghost use Rattle.rinv_ring.specs.Fault.{DegreesMeet};
+ghost use Rattle.rinv_poly.specs.Faults.{OperationsMeet};
+ghost use Rattle.rinv_div.specs.Stops.{ProductMeets};
+ghost use Rattle.rinv_buch.specs.Causes.{SPolynomialMeets};
+
+use rinv_mono::{Mono, MonoFault, MonoOrder};
+use rinv_poly::{Poly, PolyRing};
+use rinv_ring::{Field, NoMemory, Ring, RingFault};
+use std::alloc::Global;
+
+/// The S-polynomial of two polynomials that are not zero, where the least common multiple of their leading monomials is within the limit
+/// on degrees. Degree comes only where a multiplier and a monomial of its polynomial meet these degrees, or coefficients do.
+pub fn s_polynomial_of<F: Field, O: MonoOrder>(
+    ring: &PolyRing<F>,
+    alloc: Global,
+    f: &Poly<F>,
+    g: &Poly<F>,
+    order: &O,
+) -> Result<Poly<F>, RingFault>
+    requires first { IsNormal (F.ops ring.now.coeffs) (F.is_element ring.now.coeffs) ring.now.vars f.now }
+    requires second { IsNormal (F.ops ring.now.coeffs) (F.is_element ring.now.coeffs) ring.now.vars g.now }
+    requires first_nonzero { is_zero (F.ops ring.now.coeffs) f.now ≡ false }
+    requires second_nonzero { is_zero (F.ops ring.now.coeffs) g.now ≡ false }
+    requires suits { O.fits order.now ring.now.vars }
+    requires low { total_degree (lcm (leading_monomial (F.ops ring.now.coeffs) (O.cmp order.now) f.now) (leading_monomial (F.ops ring.now.coeffs) (O.cmp order.now) g.now)) ≤ max_degree }
+    ensures element { IfOk result (IsNormal (F.ops ring.now.coeffs) (F.is_element ring.now.coeffs) ring.now.vars) }
+    ensures value { IfOk result (λ s. IsSame (poly_ops (F.ops ring.now.coeffs)) s (s_polynomial (F.ops ring.now.coeffs) (O.cmp order.now) f.now g.now)) }
+    ensures degree { IfErr result (DegreesMeet (SPolynomialMeets (F.ops ring.now.coeffs) (O.cmp order.now) (F.too_high ring.now.coeffs) f.now g.now)) }
+{
+    let (f_lead, f_coefficient) = leading_term(ring, f, order);
+    let (g_lead, g_coefficient) = leading_term(ring, g, order);
+    let common = match f_lead.lcm(alloc, g_lead) {
+        Ok(common) => common,
+        Err(MonoFault::NoMemory) => return Err(RingFault::NoMemory),
+        Err(MonoFault::Degree { .. }) => unreachable!(),
+    };
+    let f_multiplier = common.quotient(alloc, f_lead)?;
+    let left = multiple(ring, alloc, f_multiplier, g_coefficient, f)?;
+    let g_multiplier = common.quotient(alloc, g_lead)?;
+    let right = multiple(ring, alloc, g_multiplier, f_coefficient, g)?;
+    let difference = ring.sub(alloc, &left, &right)?;
+    Ok(difference)
+}
+
+// The leading term of a polynomial that is not zero.
+pub fn leading_term<'a, F: Field, O: MonoOrder>(
+    ring: &PolyRing<F>,
+    f: &'a Poly<F>,
+    order: &O,
+) -> (&'a Mono, &'a F::Elem)
+    requires polynomial { IsNormal (F.ops ring.now.coeffs) (F.is_element ring.now.coeffs) ring.now.vars f.now }
+    requires nonzero { is_zero (F.ops ring.now.coeffs) f.now ≡ false }
+    requires suits { O.fits order.now ring.now.vars }
+    ensures monomial { result.0.now ≡ leading_monomial (F.ops ring.now.coeffs) (O.cmp order.now) f.now }
+    ensures vars { length result.0.now ≡ ring.now.vars }
+    ensures element { IsTrue (F.is_element ring.now.coeffs result.1.now) }
+    ensures nonzero { (F.ops ring.now.coeffs).same result.1.now (F.ops ring.now.coeffs).zero ≡ false }
+    ensures coefficient { IsSame (F.ops ring.now.coeffs) result.1.now (leading_coefficient (F.ops ring.now.coeffs) (O.cmp order.now) f.now) }
+{
+    let Some(place) = ring.lead(f, order) else {
+        unreachable!()
+    };
+    (ring.mono(f, place), ring.coeff(f, place))
+}
+
+// The multiple of the polynomial by a term.
+fn multiple<F: Field>(
+    ring: &PolyRing<F>,
+    alloc: Global,
+    mono: Mono,
+    c: &F::Elem,
+    f: &Poly<F>,
+) -> Result<Poly<F>, RingFault>
+    requires vars { length mono ≡ ring.now.vars }
+    requires element { IsTrue (F.is_element ring.now.coeffs c.now) }
+    requires nonzero { (F.ops ring.now.coeffs).same c.now (F.ops ring.now.coeffs).zero ≡ false }
+    requires polynomial { IsNormal (F.ops ring.now.coeffs) (F.is_element ring.now.coeffs) ring.now.vars f.now }
+    ensures element { IfOk result (IsNormal (F.ops ring.now.coeffs) (F.is_element ring.now.coeffs) ring.now.vars) }
+    ensures value { IfOk result (λ r. IsSame (poly_ops (F.ops ring.now.coeffs)) r (term_product (F.ops ring.now.coeffs) (mono, c.now) f.now)) }
+    ensures degree { IfErr result (DegreesMeet (λ x y. ProductMeets (F.ops ring.now.coeffs) mono f.now x y ⊎ OperationsMeet (F.too_high ring.now.coeffs) x y)) }
+{
+    let mut terms = Vec::with_capacity(alloc, 1)?;
+    let _degree = mono.degree();
+    let copy = ring.coeffs().copy(alloc, c)?;
+    terms.push((mono, copy))?;
+    let term = ring.from_distinct(terms)?;
+    let product = ring.mul(alloc, &term, f)?;
+    Ok(product)
+}

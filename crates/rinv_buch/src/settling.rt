@@ -1,0 +1,100 @@
+//! One pair: nothing is to be done where it is coprime, else its S-polynomial is divided.
+
+ghost use Rattle.std.specs.Prelude.{◌≡◌, ◌<◌, ◌≤◌, ℕ, length, IsTrue, IfOk, IfErr};
+ghost use Rattle.rinv_algebra.specs.Monomial.{total_degree, max_degree};
+ghost use Rattle.rinv_algebra.specs.Normal.{IsNormal};
+ghost use Rattle.rinv_groebner.specs.Settled.{lcm_at};
+ghost use Rattle.rinv_algebra.specs.Polynomial.{is_zero};
+ghost use Rattle.rinv_ring.specs.declared.fault.RingFault.TheVariants.{Degree};
+ghost use Rattle.rinv_div.specs.Budgets.{Spends};
+ghost use Rattle.rinv_div.specs.Stops.{StopsBy};
+ghost use Rattle.rinv_buch.specs.Spent.{IsKept, KeepsLimits};
+ghost use Rattle.rinv_buch.specs.Elements.{ArePrepared};
+ghost use Rattle.rinv_buch.specs.Runs.{Settles, SettlesWith, steps_with, RunsOutAt, MeetsDegreeAt};
+
+use crate::elements::Elements;
+use crate::s_polynomial::s_polynomial_of;
+use crate::spending::{count_steps, steps_left};
+use rinv_div::{Budget, DivStop, divide_by};
+use rinv_mono::MonoOrder;
+use rinv_pairs::{Pair, coprime};
+use rinv_poly::{Poly, PolyRing};
+use rinv_ring::{Field, Ring, RingFault};
+use std::alloc::Global;
+
+/// What became of a pair.
+#[derive(Drop)]
+pub enum Outcome<F: Field> {
+    Coprime,
+    Reduced { rest: Poly<F>, steps: u64 },
+}
+
+/// Settles the pair of two places: by its leading monomials, or by dividing its S-polynomial. The steps are counted in the budget. A stop
+/// without memory left keeps what it has spent.
+pub fn settle<F: Field, O: MonoOrder>(
+    ring: &PolyRing<F>,
+    alloc: Global,
+    elements: &Elements<F>,
+    pair: Pair,
+    order: &O,
+    budget: &mut Budget,
+) -> Result<Outcome<F>, DivStop<F>>
+    requires prepared { ArePrepared (F.ops ring.now.coeffs) (F.is_element ring.now.coeffs) ring.now.vars (O.cmp order.now) elements.now }
+    requires suits { O.fits order.now ring.now.vars }
+    requires ascending { pair.first < pair.second }
+    requires inside { pair.second < length elements.now.polys.items }
+    requires low { total_degree (lcm_at (F.ops ring.now.coeffs) (O.cmp order.now) elements.now.polys.items pair.first pair.second) ≤ max_degree }
+    requires within { IsKept budget.old }
+    ensures settles { IfOk result (Settles (F.ops ring.now.coeffs) (O.cmp order.now) elements.now.polys.items pair.first pair.second) }
+    ensures spent { IfOk result (λ s. Spends (steps_with s) budget.old budget.new) }
+    ensures rest { IfOk result (SettlesWith (IsNormal (F.ops ring.now.coeffs) (F.is_element ring.now.coeffs) ring.now.vars)) }
+    ensures stop { IfErr result (StopsBy (RunsOutAt (F.ops ring.now.coeffs) (O.cmp order.now) elements.now.polys.items pair.first pair.second budget.old budget.new) (MeetsDegreeAt (F.ops ring.now.coeffs) (O.cmp order.now) (F.too_high ring.now.coeffs) elements.now.polys.items pair.first pair.second budget.old budget.new)) }
+    ensures working { IfErr result (StopsBy (IsNormal (F.ops ring.now.coeffs) (F.is_element ring.now.coeffs) ring.now.vars) (λ _ _. IsNormal (F.ops ring.now.coeffs) (F.is_element ring.now.coeffs) ring.now.vars)) }
+    ensures limits { KeepsLimits budget.old budget.new }
+    ensures still_within { IsKept budget.new }
+{
+    let mut own = steps_left(budget);
+    let (first, second) = (pair.first as usize, pair.second as usize);
+    if coprime(&elements.leads[first], &elements.leads[second]) {
+        return Ok(Outcome::Coprime);
+    }
+    let (f, g) = (&elements.polys[first], &elements.polys[second]);
+    let s = match s_polynomial_of(ring, alloc, f, g, order) {
+        Ok(s) => s,
+        Err(fault) => return Err(before_division(ring, alloc, fault)),
+    };
+    let division = divide_by(
+        ring,
+        alloc,
+        &s,
+        &elements.polys,
+        &elements.divisors,
+        order,
+        &mut own,
+    );
+    count_steps(budget, own.steps_spent);
+    let division = division?;
+    Ok(Outcome::Reduced {
+        rest: division.rest,
+        steps: own.steps_spent,
+    })
+}
+
+// The stop for a fault before any step: nothing is at work.
+fn before_division<F: Field>(ring: &PolyRing<F>, alloc: Global, fault: RingFault) -> DivStop<F>
+    ensures fault { StopsBy (λ _. ⊥) (λ x y _. fault ≡ Degree x y) result }
+    ensures idle { StopsBy (λ _. ⊥) (λ _ _ f. IsTrue (is_zero (F.ops ring.now.coeffs) f)) result }
+    ensures normal { StopsBy (λ _. ⊥) (λ _ _ f. IsNormal (F.ops ring.now.coeffs) (F.is_element ring.now.coeffs) ring.now.vars f) result }
+{
+    match fault {
+        RingFault::NoMemory => DivStop::NoMemory,
+        RingFault::Degree { left, right } => match ring.zero(alloc) {
+            Ok(working) => DivStop::Degree {
+                left,
+                right,
+                working,
+            },
+            Err(_) => DivStop::NoMemory,
+        },
+    }
+}
