@@ -32,9 +32,6 @@ module _ {R E : Type 0} (o : RingOps E) (is_element : E → Bool) (v : ℕ) (cmp
     pub taken : run.queue.taken ≡ []
     pub low : (i j : ℕ) → i < j → j < k → total_degree (lcm_at o cmp run.elements.polys.items i j) ≤ max_degree
 
-  pub begun-first : (run : Run R E) → ArePrepared o is_element v cmp run.elements → run.elements.polys.items ≡ nonzeros o given → run.journal.items ≡ [] → run.queue.elements ≡ 0 → run.queue.taken ≡ [] → IsBegun 0 run
-  begun-first run prepared polys empty elements taken = record { prepared = prepared; polys = polys; empty = empty; elements = elements; taken = taken; low = λ i j low none. absurd (omega (arith, none)) }
-
   -- the journal is one without entries
   begun-journal : (run : Run R E) → RingLaws o → run.elements.polys.items ≡ nonzeros o given → run.journal.items ≡ [] → Journal o cmp given (journal_of run.journal.items) run.elements.polys.items
   begun-journal run l polys empty =

@@ -1,5 +1,5 @@
 -- A run at its end: each pair was taken, so that the list is a Gröbner basis.
-use Rattle.std.proofs.Common.{◌≡◌, ℕ, ◌<◌, Bool, List, length, All, sym, subst, arith, IsTrue}
+use Rattle.std.proofs.Common.{ℕ, Bool, List, All, subst, arith, IsTrue}
 use Rattle.std.specs.declared.cmp.Ordering.{Ordering}
 use Rattle.rinv_algebra.specs.Ring.{RingOps, RingLaws, FieldLaws}
 use Rattle.rinv_algebra.specs.Polynomial.{Polynomial}
@@ -21,7 +21,7 @@ module _ {R E : Type 0} (o : RingOps E) (l : RingLaws o) (field : FieldLaws o) (
   given_first : AllFirst o l v given
   given_first = all_first o l v given (all-in_variables o is_element v given normal)
 
-  pub run-complete : AreAllTaken run.queue → IsComplete o cmp (journal_of run.journal.items) run.elements.polys.items
+  run-complete : AreAllTaken run.queue → IsComplete o cmp (journal_of run.journal.items) run.elements.polys.items
   run-complete all i j low inside = subst (λ (ps : List (ℕ × ℕ)). IsTrue (is_listed ps i j)) is_run.taken (all i j low (omega (arith, inside, is_run.elements)))
 
   pub run-nonzero : AreNonzero o run.elements.polys.items

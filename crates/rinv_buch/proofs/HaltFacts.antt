@@ -1,8 +1,8 @@
 -- Why the algorithm halts, from the parts of a halt and what the calls say.
 --   parts_stop           a stop whose parts have a property
 --   halts-idle, halts-in_division, halts-high    a pair that may not be taken, a division that stopped, a pair that is too high
-use Rattle.std.proofs.Common.{◌≡◌, ◌⊎◌, ℕ, ◌≤◌, ◌<◌, false, List, [], ◌∷◌, ◌++◌, length, map, refl, sym, ◌∙◌, ap, ap₂, subst, subst₂, inl, inr, arith, IsTrue}
-use Rattle.std.specs.Prelude.{IsFalse, ⊤}
+use Rattle.std.proofs.Common.{◌≡◌, ℕ, ◌≤◌, ◌<◌, false, List, [], ◌∷◌, ◌++◌, length, map, sym, ap₂, subst, subst₂, inl, inr, arith, IsTrue}
+use Rattle.std.specs.Prelude.{IsFalse}
 use Rattle.std.specs.declared.cmp.Ordering.{Ordering}
 use Rattle.rinv_algebra.specs.Ring.{RingOps}
 use Rattle.rinv_algebra.specs.Polynomial.{Polynomial, is_zero}
@@ -26,7 +26,7 @@ use Rattle.rinv_buch.specs.Spent.{IsKept, SpendsOn}
 use Rattle.rinv_buch.specs.Causes.{IsCause, Halts, StopsSo}
 use Rattle.rinv_buch.specs.Halting.{HasParts, IsOfFault, IsOfStop, IsHighPair, HaltsAtStart, HaltsAfter}
 use Rattle.rinv_buch.specs.Runs.{RunsOutAt, MeetsDegreeAt}
-use Rattle.rinv_buch.proofs.SpentTogether.{spends-steps, spends-entry}
+use Rattle.rinv_buch.proofs.SpentTogether.{spends-steps}
 use Rattle.rinv_buch.proofs.RunsOfPairs.{first-meets}
 
 module _ {E : Type 0} where
@@ -34,7 +34,7 @@ module _ {E : Type 0} where
   halt list journal f why = record { polys = list; journal = journal; working = f; why = why }
 
   -- a weaker property
-  pub stop-weaker : {R : Type 0} (P Q : Halted E → Type 0) → ((h : Halted E) → P h → Q h) → (s : Stop R E) → StopsSo P s → StopsSo Q s
+  stop-weaker : {R : Type 0} (P Q : Halted E → Type 0) → ((h : Halted E) → P h → Q h) → (s : Stop R E) → StopsSo P s → StopsSo Q s
   stop-weaker P Q k (Incomplete h) p = k h p
   stop-weaker P Q k NoMemory p = tt
 

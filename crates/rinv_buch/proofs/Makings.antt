@@ -11,7 +11,7 @@ use Rattle.std.proofs.lemmas.Bool.{le-leb}
 use Rattle.std.proofs.lemmas.List.Elements.{All-head, All-tail}
 use Rattle.rinv_algebra.specs.Ring.{RingOps, RingLaws, IsSame}
 use Rattle.rinv_algebra.specs.Monomial.{divides}
-use Rattle.rinv_algebra.specs.Polynomial.{Term, Polynomial, poly_ops, scale, is_zero}
+use Rattle.rinv_algebra.specs.Polynomial.{Polynomial, poly_ops, scale, is_zero}
 use Rattle.rinv_algebra.specs.Normal.{IsNormal, is_in_variables}
 use Rattle.rinv_algebra.specs.Ideal.{IsMember}
 use Rattle.rinv_algebra.specs.Leading.{leading_monomial, leading_coefficient}
@@ -22,14 +22,14 @@ use Rattle.rinv_groebner.specs.Orders.{OrdersMonomials}
 use Rattle.rinv_groebner.specs.Division.{Step, IsDivision}
 use Rattle.rinv_groebner.specs.Basis.{AreMembers}
 use Rattle.rinv_groebner.specs.Reduced.{IsMonicOf, IsMadeAt, kept}
-use Rattle.rinv_groebner.proofs.Ascending.{Has, place_of}
+use Rattle.rinv_groebner.proofs.Ascending.{place_of}
 use Rattle.rinv_groebner.proofs.Compared.{InFirst}
 use Rattle.rinv_groebner.proofs.IdealBases.{all_from}
 use Rattle.rinv_groebner.proofs.KeptDivisors.{kept-apart}
 use Rattle.rinv_groebner.proofs.MembersOfLists.{member_generator}
 use Rattle.rinv_groebner.proofs.MonomialLists.{divides-divisor, divisor-divides}
 use Rattle.rinv_groebner.proofs.Remainders.{AreSpread, IsRemainder, remainder}
-use Rattle.rinv_poly.proofs.Forms.{IsNormalTerm, IsOrdered, ordered-from_normal}
+use Rattle.rinv_poly.proofs.Forms.{IsNormalTerm, ordered-from_normal}
 use Rattle.rinv_buch.specs.Reducing.{AreLeadsApart}
 
 -- no leading monomial of a kept element divides that of another
@@ -40,6 +40,15 @@ kept-leads_apart o cmp hs i j ii jj differ = go (divides (leading_monomial o cmp
     go false e = refl
     go true e = absurd (kept-apart o cmp hs i j ii jj differ (divides-divisor _ _ e))
 
+module _ {E : Type 0} (o : RingOps E) (cmp : List ℕ → List ℕ → Ordering) (hs others : List (Polynomial E)) (k : ℕ) (f rest : Polynomial E) (removed : others ≡ remove hs k) (taken : f ≡ get_or hs k []) (found : (steps : List (Step E)) × IsDivision o cmp others f steps rest) where
+  -- a division of the element taken out by the others
+  pub division-at : (steps : List (Step E)) × IsDivision o cmp (remove hs k) (get_or hs k []) steps rest
+  division-at = (found.0, subst₂ (λ (hs : List (Polynomial E)) (f : Polynomial E). IsDivision o cmp hs f found.0 rest) removed taken found.1)
+
+  -- what it leaves, made monic, is made of the element
+  pub made-at : (g : Polynomial E) → IsMonicOf o cmp rest g → IsMadeAt o cmp hs k g
+  made-at g m = record { steps = division-at.0; rest = rest; division = division-at.1; monic = m }
+
 module _ {E : Type 0} (o : RingOps E) (l : RingLaws o) (cmp : List ℕ → List ℕ → Ordering) where
   -- a polynomial times an inverse of its leading coefficient
   pub monic-of : (f g : Polynomial E) (c b : E) → IsSame o c (leading_coefficient o cmp f) → IsSame o (o.mul c b) o.one → IsSame (poly_ops o) g (scale o b f) → IsMonicOf o cmp f g
@@ -48,15 +57,6 @@ module _ {E : Type 0} (o : RingOps E) (l : RingLaws o) (cmp : List ℕ → List 
     inverse = facts.then o l (l.mul_comm b (leading_coefficient o cmp f)) (facts.then o l (facts.mul2 o l (facts.back o l lead) (l.same_refl b)) one);
     scaled = scaled;
   }
-
-  module _ (hs others : List (Polynomial E)) (k : ℕ) (f rest : Polynomial E) (removed : others ≡ remove hs k) (taken : f ≡ get_or hs k []) (found : (steps : List (Step E)) × IsDivision o cmp others f steps rest) where
-    -- a division of the element taken out by the others
-    pub division-at : (steps : List (Step E)) × IsDivision o cmp (remove hs k) (get_or hs k []) steps rest
-    division-at = (found.0, subst₂ (λ (hs : List (Polynomial E)) (f : Polynomial E). IsDivision o cmp hs f found.0 rest) removed taken found.1)
-
-    -- what it leaves, made monic, is made of the element
-    pub made-at : (g : Polynomial E) → IsMonicOf o cmp rest g → IsMadeAt o cmp hs k g
-    made-at g m = record { steps = division-at.0; rest = rest; division = division-at.1; monic = m }
 
   module _ (is_element : E → Bool) (v : ℕ) where
     terms-in : (f : Polynomial E) → All (IsNormalTerm o is_element v) f → IsTrue (is_in_variables v f)

@@ -88,5 +88,4 @@ module _ {E : Type 0} (o : RingOps E) (cmp : List ℕ → List ℕ → Ordering)
           not_coprime = off;
           meets = inr (record { so_far = so-far w m.so_far; step_left = run-left before own spent after h m.step_left; meets = m.meets });
         }
-          where
         stops-dividing high NoMemory t = tt

@@ -5,7 +5,7 @@ use Rattle.std.proofs.lemmas.List.{map-append}
 use Rattle.std.specs.declared.cmp.Ordering.{Ordering}
 use Rattle.rinv_algebra.specs.Ring.{RingOps}
 use Rattle.rinv_algebra.specs.Polynomial.{Polynomial, is_zero}
-use Rattle.rinv_groebner.specs.Journal.{Entry, IsOpen, IsEntry}
+use Rattle.rinv_groebner.specs.Journal.{IsOpen, IsEntry}
 use Rattle.rinv_buch.specs.declared.kinds.Entry.{Entry as StoredEntry}
 use Rattle.rinv_buch.specs.declared.kinds.EntryKind.TheVariants.{Reduced as ReducedKind, Coprime as CoprimeKind}
 use Rattle.rinv_buch.specs.declared.settling.Outcome.{Outcome}

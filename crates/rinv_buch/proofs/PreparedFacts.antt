@@ -1,24 +1,20 @@
 -- What is prepared of the elements: none is zero, and their leading monomials are in all variables and low.
-use Rattle.std.proofs.Common.{◌≡◌, ◌⊎◌, ℕ, suc, ◌+◌, ◌<◌, ◌≤◌, Bool, true, false, not, ◌||◌, List, [], ◌∷◌, ◌++◌, length, length-append, get_or, map, All, refl, sym, ◌∙◌, ap, ap₂, subst, inl, inr, arith, IsTrue, true≢false}
-use Rattle.std.specs.Prelude.{IsFalse}
+use Rattle.std.proofs.Common.{◌≡◌, ℕ, suc, ◌<◌, ◌≤◌, Bool, true, false, not, List, [], ◌∷◌, length, get_or, map, All, refl, sym, ◌∙◌, ap, subst, inl, inr, arith, IsTrue, true≢false}
 use Rattle.std.specs.List.{list_any}
 use Rattle.std.proofs.lemmas.Bool.Decides.{nat_tests}
-use Rattle.std.proofs.lemmas.List.{get_or-map, get_or-append-add, length-map}
+use Rattle.std.proofs.lemmas.List.{get_or-map, length-map}
 use Rattle.std.proofs.lemmas.List.Elements.{Contains-get_or}
 use Rattle.std.specs.declared.cmp.Ordering.{Ordering}
 use Rattle.rinv_algebra.specs.Ring.{RingOps, RingLaws}
-use Rattle.rinv_algebra.specs.MonomialOrder.{MonoOrderLaws}
 use Rattle.rinv_algebra.specs.Monomial.{divides, total_degree, max_degree}
 use Rattle.rinv_algebra.specs.Polynomial.{Term, Polynomial, has_monomial, is_zero}
 use Rattle.rinv_algebra.specs.Normal.{IsNormal}
 use Rattle.rinv_algebra.specs.Leading.{leading_monomial}
 use Rattle.rinv_algebra.proofs.Degrees.{total_degree-same}
-use Rattle.rinv_algebra.proofs.Same.{IsAbsent, coefficient-absent}
+use Rattle.rinv_algebra.proofs.Same.{coefficient-absent}
 use Rattle.rinv_groebner.specs.Division.{is_reducible}
-use Rattle.rinv_groebner.specs.Orders.{OrdersMonomials}
-use Rattle.rinv_groebner.proofs.LeadingMonomials.{leading_monomial-leads}
 use Rattle.rinv_groebner.proofs.Reducible.{reducible-one}
-use Rattle.rinv_poly.proofs.Forms.{IsOrdered, IsNormalTerm, ordered-from_normal}
+use Rattle.rinv_poly.proofs.Forms.{ordered-from_normal}
 use Rattle.rinv_poly.proofs.NormalFacts.{has-term}
 use Rattle.rinv_poly.proofs.Degrees.{searched}
 use Rattle.rinv_div.specs.Divisors.{IsDivisor, AreDivisors}
@@ -40,7 +36,7 @@ module _ {R E : Type 0} (o : RingOps E) (is_element : E → Bool) (v : ℕ) (cmp
     pub prepared-vars : (k : ℕ) → k < length es.polys.items → length (leading_monomial o cmp (get_or es.polys.items k [])) ≡ v
     prepared-vars k low = let d = (divisor-at es.polys.items es.divisors.list.items prepared.divisors k low).1 in ap length (sym d.lead) ∙ d.vars
 
-    pub leads-vars : All (λ m. length m ≡ v) es.leads.items
+    leads-vars : All (λ m. length m ≡ v) es.leads.items
     leads-vars k d low =
         let inside : k < length es.polys.items = omega (arith, low, ap length prepared.leads, length-map es.polys.items (leading_monomial o cmp)) in
         ap (λ (ms : List (List ℕ)). length (get_or ms k d)) prepared.leads ∙ ap length (get_or-map (leading_monomial o cmp) es.polys.items k [] d inside) ∙ prepared-vars k inside
@@ -66,7 +62,7 @@ module _ {E : Type 0} (o : RingOps E) (l : RingLaws o) (is_element : E → Bool)
   ]
 
   -- where no term is reducible, no monomial is
-  pub terms-reducible : (list : List (Polynomial E)) (f : Polynomial E) → All (λ t. is_reducible o cmp list t.0 ≡ false) f → (m : List ℕ) → IsTrue (has_monomial o f m) → is_reducible o cmp list m ≡ false
+  terms-reducible : (list : List (Polynomial E)) (f : Polynomial E) → All (λ t. is_reducible o cmp list t.0 ≡ false) f → (m : List ℕ) → IsTrue (has_monomial o f m) → is_reducible o cmp list m ≡ false
   terms-reducible list f all m has = elim (searched o l m f) [
     | inl there ↦
         let d : Term E = (m, o.zero) in
@@ -75,7 +71,7 @@ module _ {E : Type 0} (o : RingOps E) (l : RingLaws o) (is_element : E → Bool)
     | inr absent ↦ absurd (true≢false (sym has ∙ rw (coefficient-absent o m f absent) (ap not (l.same_refl o.zero))))
   ]
 
-  pub term-has : (f : Polynomial E) → IsNormal o is_element v f → (k : ℕ) (t : Term E) → k < length f → has_monomial o f (get_or f k t).0 ≡ true
+  term-has : (f : Polynomial E) → IsNormal o is_element v f → (k : ℕ) (t : Term E) → k < length f → has_monomial o f (get_or f k t).0 ≡ true
   term-has f n k t low = has-term o l is_element v f (ordered-from_normal o is_element v f n) (get_or f k t) (Contains-get_or f k t low)
 
 module _ {R E : Type 0} (o : RingOps E) (l : RingLaws o) (is_element : E → Bool) (v : ℕ) (cmp : List ℕ → List ℕ → Ordering) (es : Elements R E) (prepared : ArePrepared o is_element v cmp es)

@@ -1,5 +1,5 @@
 -- A run after a pair was entered: its journal and its queue, and the same where an element was added.
-use Rattle.std.proofs.Common.{◌≡◌, ◌⊎◌, ℕ, ◌+◌, ◌<◌, Bool, true, false, List, [], ◌∷◌, ◌++◌, length, length-append, map, refl, sym, ◌∙◌, ap, ap₂, subst, inl, inr, arith, IsTrue}
+use Rattle.std.proofs.Common.{◌≡◌, ℕ, ◌+◌, Bool, false, List, [], ◌∷◌, ◌++◌, length, length-append, map, sym, ◌∙◌, ap, ap₂, subst, arith, IsTrue}
 use Rattle.std.specs.Prelude.{IsFalse}
 use Rattle.std.proofs.lemmas.List.{map-append}
 use Rattle.std.specs.declared.cmp.Ordering.{Ordering}
@@ -11,13 +11,12 @@ use Rattle.rinv_groebner.specs.Journal.{Entry, pairs_of, Journal}
 use Rattle.rinv_mono.specs.declared.fault.MonoFault.{MonoFault}
 use Rattle.rinv_pairs.specs.Pairs.{Pairs}
 use Rattle.rinv_pairs.specs.High.{IsFirstHigh, AreLow as AreLowWith}
-use Rattle.rinv_buch.specs.declared.kinds.Why.{Why}
 use Rattle.rinv_buch.specs.declared.kinds.Stop.{Stop}
 use Rattle.rinv_buch.specs.declared.run.Run.{Run}
 use Rattle.rinv_buch.specs.Kinds.{journal_of}
 use Rattle.rinv_buch.specs.Causes.{StopsSo}
 use Rattle.rinv_buch.specs.Halting.{HasParts, IsOfFault, HaltsAfter}
-use Rattle.rinv_buch.specs.Runs.{AreLow, IsRun, IsTaking, Enters, Grows, GrowsIf, Turns}
+use Rattle.rinv_buch.specs.Runs.{AreLow, IsRun, IsTaking, Enters, Grows, GrowsIf}
 use Rattle.rinv_buch.proofs.RunsOfPairs.{low-append, last-fresh}
 use Rattle.rinv_buch.proofs.HaltFacts.{parts-stop, high-pair}
 
@@ -27,19 +26,13 @@ module _ {R E : Type 0} (o : RingOps E) (is_element : E → Bool) (v : ℕ) (cmp
   abbrev with_queue : Pairs → Run R E
   with_queue queue = record { elements = after.elements; queue = queue; journal = after.journal }
 
-  pub entered-taken : before.queue.taken ≡ pairs_of (journal_of after.journal.items)
+  entered-taken : before.queue.taken ≡ pairs_of (journal_of after.journal.items)
   entered-taken =
       taking.taken ∙ ap₂ (λ (a b : ℕ). pairs_of (journal_of before.journal.items) ++ (a, b) ∷ []) (sym enters.first) (sym enters.second)
       ∙ sym (map-append (λ (e : Entry). (e.first, e.second)) (journal_of before.journal.items) (enters.entry ∷ [])) ∙ ap pairs_of (sym enters.journal)
 
-  pub same-turns : GrowsIf o cmp false before.elements.polys.items after.elements.polys.items → Turns o cmp count before after
-  same-turns same = record { entry = enters.entry; steps = enters.steps; journal = enters.journal; polys = inl same; taken = ap (λ (q : Pairs). q.taken) enters.queue }
-
-  pub grown-turns : GrowsIf o cmp true before.elements.polys.items after.elements.polys.items → (queue : Pairs) → queue.taken ≡ after.queue.taken → Turns o cmp count before (with_queue queue)
-  grown-turns grows queue taken = record { entry = enters.entry; steps = enters.steps; journal = enters.journal; polys = inr grows; taken = taken ∙ ap (λ (q : Pairs). q.taken) enters.queue }
-
   module _ (given : List (Polynomial E)) (made : Journal o cmp given (journal_of before.journal.items) before.elements.polys.items) where
-    pub entered-journal : Journal o cmp given (journal_of after.journal.items) after.elements.polys.items
+    entered-journal : Journal o cmp given (journal_of after.journal.items) after.elements.polys.items
     entered-journal = subst (λ (js : List Entry). Journal o cmp given js after.elements.polys.items) (sym enters.journal) (Journal.enter _ _ enters.entry _ made enters.is_entry)
 
     -- nothing was added

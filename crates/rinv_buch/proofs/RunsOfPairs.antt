@@ -1,15 +1,15 @@
 -- Runs of the algorithm from pair to pair: the journal with an entry more, and the pairs of an element more.
-use Rattle.std.proofs.Common.{◌≡◌, ◌⊎◌, ℕ, zero, suc, ◌+◌, ◌<◌, ◌≤◌, List, [], ◌∷◌, ◌++◌, length, length-append, get_or, map, refl, sym, ◌∙◌, ap, ap₂, subst, subst₂, inl, inr, arith, IsTrue, true≢false}
+use Rattle.std.proofs.Common.{◌≡◌, ◌⊎◌, ℕ, ◌+◌, ◌<◌, ◌≤◌, List, [], ◌∷◌, ◌++◌, length, length-append, get_or, map, sym, ◌∙◌, ap, ap₂, subst, subst₂, inl, inr, arith, IsTrue, true≢false}
 use Rattle.std.specs.Prelude.{IsFalse, Some, None}
 use Rattle.std.proofs.lemmas.Bool.{cases_Bool, cases_order}
-use Rattle.std.proofs.lemmas.List.{get_or-map, map-append, get_or_append_left}
+use Rattle.std.proofs.lemmas.List.{get_or-map, get_or_append_left}
 use Rattle.std.specs.declared.cmp.Ordering.{Ordering}
 use Rattle.rinv_algebra.specs.Ring.{RingOps}
 use Rattle.rinv_algebra.specs.Monomial.{lcm, total_degree, max_degree}
-use Rattle.rinv_algebra.specs.Polynomial.{Polynomial, is_zero}
+use Rattle.rinv_algebra.specs.Polynomial.{Polynomial}
 use Rattle.rinv_algebra.specs.Leading.{leading_monomial}
 use Rattle.rinv_groebner.specs.Settled.{is_listed, lead_at, lcm_at}
-use Rattle.rinv_groebner.specs.Journal.{Entry, Kind, reduced, coprime, chain, pairs_of, Makes, IsOpen, IsEntry, Journal}
+use Rattle.rinv_groebner.specs.Journal.{Entry, Kind, reduced, coprime, chain, pairs_of, Makes, IsOpen, Journal}
 use Rattle.rinv_groebner.proofs.JournalGood.{listed-append}
 use Rattle.rinv_pairs.specs.High.{FirstIsHigh, AreLow as AreLowWith}
 use Rattle.rinv_buch.specs.Causes.{LcmMeets}

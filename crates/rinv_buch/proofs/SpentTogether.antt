@@ -5,7 +5,7 @@ use Rattle.std.proofs.lemmas.List.Sums.{sum_by-append}
 use Rattle.rinv_groebner.specs.Journal.{Entry}
 use Rattle.rinv_div.specs.declared.budget.Budget.{Budget}
 use Rattle.rinv_div.specs.Budgets.{Spends}
-use Rattle.rinv_buch.specs.Spent.{IsKept, KeepsLimits, SpendsBoth, steps_of, SpendsOn}
+use Rattle.rinv_buch.specs.Spent.{KeepsLimits, SpendsBoth, steps_of, SpendsOn}
 
 pub limits-refl : (b : Budget) → KeepsLimits b b
 limits-refl b = record { pairs = refl; steps = refl; endless = refl }

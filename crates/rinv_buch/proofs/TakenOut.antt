@@ -3,7 +3,7 @@
 --   divisors-taken       the divisors of the others
 --   divisors-nonzero     what has divisors is not zero
 --   prepared-same        equal lists are prepared
-use Rattle.std.proofs.Common.{◌≡◌, ℕ, zero, suc, ◌<◌, ◌≤◌, ◌+◌, Bool, List, [], ◌∷◌, length, get_or, map, refl, sym, ap, ap₂, false, ◌∙◌, subst, subst₂, inl, inr, arith, All}
+use Rattle.std.proofs.Common.{◌≡◌, ℕ, zero, suc, ◌<◌, ◌+◌, Bool, List, [], ◌∷◌, length, get_or, map, refl, sym, ap, ap₂, false, ◌∙◌, subst, subst₂, inl, inr, arith, All}
 use Rattle.std.specs.List.{insert, remove}
 use Rattle.std.specs.declared.cmp.Ordering.{Ordering}
 use Rattle.std.proofs.lemmas.Bool.{cases_lt}

@@ -1,6 +1,6 @@
 //! Buchberger's algorithm: pair after pair, until each has its entry in the journal.
 
-ghost use Rattle.std.specs.Prelude.{◌≡◌, ◌<◌, ◌≤◌, ℕ, List, [], length, All, IfOk, IfErr};
+ghost use Rattle.std.specs.Prelude.{◌≡◌, ℕ, List, All, IfOk, IfErr};
 ghost use Rattle.rinv_algebra.specs.Polynomial.{Polynomial};
 ghost use Rattle.rinv_algebra.specs.Normal.{IsNormal};
 ghost use Rattle.rinv_groebner.specs.Journal.{Journal, IsComplete};
@@ -94,7 +94,7 @@ fn entered<F: Field, O: MonoOrder>(
     pair: Pair,
     outcome: Outcome<F>,
     order: &O,
-    run: Run<F>,
+    mut run: Run<F>,
 ) -> Result<Run<F>, Stop<F>>
     requires suits { O.fits order.now ring.now.vars }
     requires taking { IsTaking (F.ops ring.now.coeffs) (F.is_element ring.now.coeffs) ring.now.vars (O.cmp order.now) pair.first pair.second run }
@@ -104,7 +104,6 @@ fn entered<F: Field, O: MonoOrder>(
     ensures turns { IfOk result (Turns (F.ops ring.now.coeffs) (O.cmp order.now) (steps_with outcome) run) }
     ensures stop { (given : List (Polynomial F.Elem)) → Journal (F.ops ring.now.coeffs) (O.cmp order.now) given (journal_of run.journal.items) run.elements.polys.items → IfErr result (StopsSo (HaltsAfter (F.ops ring.now.coeffs) (O.cmp order.now) given (journal_of run.journal.items) (steps_with outcome))) }
 {
-    let mut run = run;
     let added = place(run.elements.polys.len())?;
     if enter(ring, alloc, pair, outcome, order, &mut run)? {
         if let Err(fault) = run.queue.add_element(&run.elements.leads, added) {

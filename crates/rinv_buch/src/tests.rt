@@ -1,6 +1,6 @@
 //! Small tables over GF(101), in the variables x > y.
 
-ghost use Rattle.std.specs.Prelude.{◌≡◌, length, All, IfOk, IfSome, nat_lt};
+ghost use Rattle.std.specs.Prelude.{◌≡◌, length, IfOk, IfSome, nat_lt};
 ghost use Rattle.rinv_algebra.specs.Normal.{IsNormal};
 ghost use Rattle.rinv_algebra.specs.Residue.{residue_ops};
 ghost use Rattle.rinv_buch.specs.Spent.{IsKept};

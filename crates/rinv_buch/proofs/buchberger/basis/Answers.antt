@@ -1,6 +1,5 @@
-use Rattle.std.proofs.Common.{◌≡◌, List, sym, subst, arith}
+use Rattle.std.proofs.Common.{List, sym, subst, arith}
 use Rattle.std.proofs.lemmas.Result.{err_from_is_err_and}
-use Rattle.rinv_algebra.specs.Polynomial.{Polynomial}
 use Rattle.rinv_groebner.specs.Basis.{AreNonzero, IsGroebnerBasis}
 use Rattle.rinv_groebner.specs.Journal.{Entry}
 use Rattle.rinv_groebner.specs.Orders.{OrdersMonomials}

@@ -1,4 +1,3 @@
-use Rattle.std.proofs.Common.{◌≡◌, ℕ}
 use Rattle.rinv_buch.specs.Kinds.{journal_of}
 use Rattle.rinv_buch.specs.Runs.{IsRun}
 use Rattle.rinv_buch.specs.Spent.{IsKept, KeepsLimits, SpendsOn}

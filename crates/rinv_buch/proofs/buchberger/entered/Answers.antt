@@ -1,5 +1,4 @@
-use Rattle.std.proofs.Common.{◌≡◌, ◌∙◌, ℕ, List, length, sym, subst, true, false, Bool, arith}
-use Rattle.rinv_algebra.specs.Polynomial.{Polynomial}
+use Rattle.std.proofs.Common.{ℕ, List, sym, subst, true, false, Bool, arith}
 use Rattle.rinv_pairs.specs.High.{IsFirstHigh, AreLow as AreLowWith}
 use Rattle.rinv_buch.specs.Runs.{Grows, GrowsIf, IsRun, steps_with}
 use Rattle.rinv_buch.proofs.RunsEntered.{same-run, grown-run, grown-high}

@@ -1,5 +1,3 @@
-use Rattle.std.proofs.Common.{subst, ◌∷◌, List}
-use Rattle.std.specs.List.Sorted.{IsPermutation}
 use Rattle.std.proofs.lemmas.List.Sorted.{IsPermutation-insert}
 use Rattle.rinv_algebra.specs.Leading.{leading_monomial}
 use Rattle.rinv_buch.proofs.Inserted.{ascend-insert}

@@ -1,5 +1,4 @@
-use Rattle.std.proofs.Common.{◌≡◌, ◌∙◌, sym, subst}
-use Rattle.std.specs.Prelude.{IfSome}
+use Rattle.std.proofs.Common.{subst}
 use Rattle.rinv_algebra.specs.Ring.{IsSame}
 use Rattle.rinv_buch.proofs.Makings.{monic-of}
 use Rattle.rinv_buch.proofs.reducing.monic.Goals as goal

@@ -1,5 +1,4 @@
 use Rattle.std.proofs.Common.{◌≡◌, ◌∙◌, ℕ, List, length, sym, ap, subst, arith}
-use Rattle.rinv_algebra.specs.Polynomial.{Polynomial}
 use Rattle.rinv_pairs.specs.High.{IsFirstHigh, AreLow as AreLowWith}
 use Rattle.rinv_buch.proofs.Beginnings.{begun-next, begun-run, begun-halts}
 use Rattle.rinv_buch.proofs.run.begun.Goals as goal

@@ -1,4 +1,4 @@
-use Rattle.std.proofs.Common.{◌≡◌, ◌∙◌, refl, sym, arith}
+use Rattle.std.proofs.Common.{◌∙◌, refl, sym, arith}
 use Rattle.rinv_buch.proofs.PairsEntered.{enters-coprime, enters-zero, enters-rest}
 use Rattle.rinv_buch.proofs.run.enter.Goals as goal
 
