@@ -1,11 +1,10 @@
 //! Gröbner bases: Buchberger's algorithm with a journal and a budget, and the reduced basis.
 #![tactic(auto)]
 
-pub mod kinds;
-
 mod buchberger;
 mod elements;
 mod halting;
+pub mod kinds;
 mod reducing;
 mod run;
 mod s_polynomial;
