@@ -53,3 +53,5 @@ pub mod JournalUnique
 pub mod PairLists
 pub mod JournalExists
 pub mod Permuted
+pub mod PastMonomials
+pub mod PastPolynomials
