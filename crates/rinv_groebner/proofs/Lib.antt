@@ -55,3 +55,6 @@ pub mod JournalExists
 pub mod Permuted
 pub mod PastMonomials
 pub mod PastPolynomials
+pub mod CopiesLists
+pub mod BasisPairs
+pub mod CopiesBasis
