@@ -3,10 +3,11 @@
 --   grevlex_orders       grevlex orders the monomials in some number of variables
 --   Copied               the element of the basis that stands at a place of the copies
 --   copies-basis         the theorem
-use Rattle.std.proofs.Common.{◌≡◌, ℕ, ◌+◌, ◌*◌, ◌<◌, ◌≤◌, List, [], ◌++◌, length, replicate, get_or, refl, sym, ◌∙◌, ap, ap₂, subst, subst₂, inl, inr, arith, IsTrue}
+use Rattle.std.proofs.Common.{◌≡◌, ℕ, ◌+◌, ◌*◌, ◌<◌, ◌≤◌, true, List, [], ◌++◌, length, replicate, get_or, refl, sym, ◌∙◌, ap, ap₂, subst, subst₂, inl, inr, arith, IsTrue}
 use Rattle.std.specs.Prelude.{IsFalse}
 use Rattle.std.proofs.lemmas.Bool.{cases_order}
 use Rattle.std.proofs.lemmas.Nat.{row_fits}
+use mathlib.Core.Bool.{Bool-set}
 use Rattle.rinv_algebra.specs.Ring.{RingOps, RingLaws, FieldLaws}
 use Rattle.rinv_algebra.specs.Monomial.{lcm, coprime}
 use Rattle.rinv_algebra.specs.Order.{grevlex}
@@ -22,6 +23,8 @@ use Rattle.rinv_groebner.specs.Orders.{OrdersMonomials, AreInVariables}
 use Rattle.rinv_groebner.specs.Basis.{AreMembers, IsGroebnerBasis}
 use Rattle.rinv_groebner.specs.Copies.{copies}
 use Rattle.rinv_groebner.proofs.Ascending.{has_at, place_of}
+use Rattle.rinv_groebner.proofs.Elements.{IsBelow}
+use Rattle.rinv_groebner.proofs.GoodPairs.{is_below, below-from, below-to}
 use Rattle.rinv_groebner.proofs.Pairs.{IsGood, good_sym}
 use Rattle.rinv_groebner.proofs.Compared.{all_monomials, below_less, less_below, nonzero-front}
 use Rattle.rinv_groebner.proofs.ListElements.{AllFirst, Place, list_elements, list-leads, all_first}
@@ -39,17 +42,24 @@ use Rattle.rinv_groebner.proofs.Reducible.{place-inside}
 pub grevlex_orders : (v : ℕ) → OrdersMonomials grevlex v
 grevlex_orders v = record { laws = grevlex_laws; ties = λ a b la lb e. grevlex_ties a b (la ∙ sym lb) e }
 
--- what is below in v variables is so with its variables counted from k
-behind-below : (k v n : ℕ) → k + v ≤ n → (a b : Monomial) → IsFront v a → IsFront v b → (all_monomials grevlex v (grevlex_orders v)).below a b → (all_monomials grevlex n (grevlex_orders n)).below (behind k a) (behind k b)
-behind-below k v n low = monomial_ind (λ a. (b : Monomial) → IsFront v a → IsFront v b → below v a b → below n (behind k a) (behind k b)) ? (λ a. monomial_ind (λ b. IsFront v (monomial a) → IsFront v b → below v (monomial a) b → below n (behind k (monomial a)) (behind k b)) ? (λ b fa fb h.
-    subst₂ (below n) (sym (behind-list k a)) (sym (behind-list k b)) (less_below grevlex n (grevlex_orders n) (replicate k 0 ++ a) (replicate k 0 ++ b) (moved a fa) (moved b fb)
-    (grevlex-past k a b ∙ below_less grevlex v (grevlex_orders v) a b fa fb h))))
-  where
-    below : (n : ℕ) → Monomial → Monomial → Type 0
-    below n a b = (all_monomials grevlex n (grevlex_orders n)).below a b
+abbrev below : (n : ℕ) → Monomial → Monomial → Type 0
+below n a b = (all_monomials grevlex n (grevlex_orders n)).below a b
 
+-- what is below in v variables is so with its variables counted from k
+behind-below : (k v n : ℕ) → k + v ≤ n → (a b : Monomial) → IsFront v a → IsFront v b → below v a b → below n (behind k a) (behind k b)
+behind-below k v n low a b fa fb h = below-from (all_monomials grevlex n (grevlex_orders n)) (behind k b) (behind k a) (tested a b fa fb h)
+  where
     moved : (a : List ℕ) → IsFront v (monomial a) → IsFront n (monomial (replicate k 0 ++ a))
     moved a f = subst (IsFront n) (behind-list k a) (behind_front k v n low (monomial a) f)
+
+    at_lists : (a b : List ℕ) → IsFront v (monomial a) → IsFront v (monomial b) → below v (monomial a) (monomial b) → below n (behind k (monomial a)) (behind k (monomial b))
+    at_lists a b fa fb h = subst₂ (below n) (sym (behind-list k a)) (sym (behind-list k b))
+        (less_below grevlex n (grevlex_orders n) (replicate k 0 ++ a) (replicate k 0 ++ b) (moved a fa) (moved b fb) (grevlex-past k a b ∙ below_less grevlex v (grevlex_orders v) a b fa fb h))
+
+    tested : (a b : Monomial) → IsFront v a → IsFront v b → below v a b → is_below (all_monomials grevlex n (grevlex_orders n)) (behind k b) (behind k a) ≡ true
+    tested = monomial_ind (λ a. (b : Monomial) → IsFront v a → IsFront v b → below v a b → is_below (all_monomials grevlex n (grevlex_orders n)) (behind k b) (behind k a) ≡ true) (λ a. hlevel Bool-set)
+        (λ a. monomial_ind (λ b. IsFront v (monomial a) → IsFront v b → below v (monomial a) b → is_below (all_monomials grevlex n (grevlex_orders n)) (behind k b) (behind k (monomial a)) ≡ true) (λ b. hlevel Bool-set)
+        (λ b fa fb h. below-to (all_monomials grevlex n (grevlex_orders n)) (behind k (monomial b)) (behind k (monomial a)) (at_lists a b fa fb h)))
 
 module _ {E : Type 0} (o : RingOps E) (l : RingLaws o) (field : FieldLaws o) (c v n : ℕ) (fs hs : List (Polynomial E)) (in_v : AreInVariables v hs) (b : IsGroebnerBasis o grevlex v fs hs) where
   abbrev all : List (Polynomial E)
@@ -96,7 +106,20 @@ module _ {E : Type 0} (o : RingOps E) (l : RingLaws o) (field : FieldLaws o) (c 
 
   -- a pair within one copy
   within : (j : ℕ) → j < c → (p q : Place o hs) (x y : Place o all) → get_or all x.0 [] ≡ past (j * v) (get_or hs p.0 []) → get_or all y.0 [] ≡ past (j * v) (get_or hs q.0 []) → Good x y
-  within j low p q x y e e' = ?
+  within j low p q x y e e' = quotients-good o l field grevlex (c * v + n) (grevlex_orders (c * v + n)) all all_in x y
+      (subst₂ (IsBelow (list_elements o l field grevlex (c * v + n) (grevlex_orders (c * v + n)) all all_in))
+      (behind-list (j * v) (lcm (lead p) (lead q)) ∙ ap (λ (a : List ℕ). monomial a) (sym (ap₂ lcm (lead-copied j p x e) (lead-copied j q y e') ∙ lcm-past (j * v) (lead p) (lead q))))
+      (sym (past-class o l (j * v) s) ∙ ap (class (poly_ops o)) (sym (ap₂ (s_polynomial o grevlex) e e' ∙ s_polynomial-past o (j * v) l _ _ p.1 q.1)))
+      (multiples-image (polynomials o l) (behind (j * v)) (behind-mul (j * v))
+      (list_elements o l field grevlex v (grevlex_orders v) hs first).element (list_elements o l field grevlex v (grevlex_orders v) hs first).lead
+      (list_elements o l field grevlex (c * v + n) (grevlex_orders (c * v + n)) all all_in).element (list_elements o l field grevlex (c * v + n) (grevlex_orders (c * v + n)) all all_in).lead
+      (λ r. (copy_at j low r).0) (λ r. sym (past-class o l (j * v) (get_or hs r.0 [])) ∙ ap (class (poly_ops o)) (copy_at j low r).1)
+      (λ r. behind-list (j * v) (lead r) ∙ ap (λ (a : List ℕ). monomial a) (sym (lead-copied j r (copy_at j low r).0 (sym (copy_at j low r).1))))
+      (λ m lower. behind-below (j * v) v (c * v + n) (copy_fits c v n j low) m (monomial (lcm (lead p) (lead q))) lower.0 (lcm_front o l field grevlex v (grevlex_orders v) hs first p q) lower.1)
+      (s_polynomial-multiples o l field grevlex v (grevlex_orders v) fs hs first basis b.ideal.0 p q)))
+    where
+      s : Polynomial E
+      s = s_polynomial o grevlex (get_or hs p.0 []) (get_or hs q.0 [])
 
   -- a pair of two copies
   between : (i j : ℕ) → i < j → (p q : Place o hs) (x y : Place o all) → get_or all x.0 [] ≡ past (i * v) (get_or hs p.0 []) → get_or all y.0 [] ≡ past (j * v) (get_or hs q.0 []) → Good x y
