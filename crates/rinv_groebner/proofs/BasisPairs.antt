@@ -1,7 +1,7 @@
 -- A Gröbner basis has quotients for each of its pairs.
 --   s_polynomial-multiples    the S-polynomial is a sum of multiples, in the basis' variables and below the least common multiple
 --   multiples-image      a sum of multiples with its monomials moved, by elements that stand for those that were moved
-use Rattle.std.proofs.Common.{◌≡◌, ℕ, Bool, true, List, [], get_or, refl, sym, ◌∙◌, ap, ap₂, subst, IsTrue}
+use Rattle.std.proofs.Common.{◌≡◌, ℕ, Bool, true, List, [], get_or, sym, ◌∙◌, ap, ap₂, subst, IsTrue}
 use Rattle.std.specs.Prelude.{◌&&◌}
 use Rattle.std.specs.declared.cmp.Ordering.{Ordering}
 use Rattle.rinv_algebra.specs.Ring.{RingOps, RingLaws, FieldLaws}

@@ -1,10 +1,9 @@
 -- Copies of a Gröbner basis in disjoint sets of variables are together a Gröbner basis: a pair within a copy is that of the basis, moved,
 -- and the leading monomials of two copies have no variable in common.
---   grevlex_orders       grevlex orders the monomials in some number of variables
+--   behind-below         monomials with their variables counted from k stand in grevlex as without
 --   Copied               the element of the basis that stands at a place of the copies
 --   copies-basis         the theorem
-use Rattle.std.proofs.Common.{◌≡◌, ℕ, ◌+◌, ◌*◌, ◌<◌, ◌≤◌, true, List, [], ◌++◌, length, replicate, get_or, refl, sym, ◌∙◌, ap, ap₂, subst, subst₂, inl, inr, arith, IsTrue}
-use Rattle.std.specs.Prelude.{IsFalse}
+use Rattle.std.proofs.Common.{◌≡◌, ℕ, ◌+◌, ◌*◌, ◌<◌, ◌≤◌, true, List, [], ◌++◌, replicate, get_or, sym, ◌∙◌, ap, ap₂, subst, subst₂, inl, inr, arith, IsTrue}
 use Rattle.std.proofs.lemmas.Bool.{cases_order}
 use Rattle.std.proofs.lemmas.Nat.{row_fits}
 use mathlib.Core.Bool.{Bool-set}
@@ -13,13 +12,12 @@ use Rattle.rinv_algebra.specs.Monomial.{lcm, coprime}
 use Rattle.rinv_algebra.specs.Order.{grevlex}
 use Rattle.rinv_algebra.specs.Polynomial.{Polynomial, poly_ops, is_zero, past}
 use Rattle.rinv_algebra.specs.Leading.{leading_monomial, s_polynomial}
-use Rattle.rinv_algebra.proofs.Grevlex.{grevlex_laws, grevlex_ties}
 use Rattle.rinv_theory.proofs.Classes.{class}
-use Rattle.rinv_theory.proofs.Monoid.{Monomial, monomial, monomials, monomial_ind}
+use Rattle.rinv_theory.proofs.Monoid.{Monomial, monomial, monomial_ind}
 use Rattle.rinv_theory.proofs.Polynomials.{polynomials}
 use Rattle.rinv_theory.proofs.Places.{behind, behind-list, behind-mul}
 use Rattle.rinv_theory.proofs.Variables.{IsFront, past-class}
-use Rattle.rinv_groebner.specs.Orders.{OrdersMonomials, AreInVariables}
+use Rattle.rinv_groebner.specs.Orders.{AreInVariables}
 use Rattle.rinv_groebner.specs.Basis.{AreMembers, IsGroebnerBasis}
 use Rattle.rinv_groebner.specs.Copies.{copies}
 use Rattle.rinv_groebner.proofs.Ascending.{has_at, place_of}
@@ -28,19 +26,16 @@ use Rattle.rinv_groebner.proofs.GoodPairs.{is_below, below-from, below-to}
 use Rattle.rinv_groebner.proofs.Pairs.{IsGood, good_sym}
 use Rattle.rinv_groebner.proofs.Compared.{all_monomials, below_less, less_below, nonzero-front}
 use Rattle.rinv_groebner.proofs.ListElements.{AllFirst, Place, list_elements, list-leads, all_first}
+use Rattle.rinv_groebner.proofs.KnownOrders.{grevlex_orders}
 use Rattle.rinv_groebner.proofs.ListBases.{good-list_basis}
 use Rattle.rinv_groebner.proofs.IdealBases.{list_basis, IsListBasis}
 use Rattle.rinv_groebner.proofs.MemberLists.{member_trans}
 use Rattle.rinv_groebner.proofs.PairsOfLists.{quotients-good, coprime-good, lcm_front}
 use Rattle.rinv_groebner.proofs.PastMonomials.{lcm-past, grevlex-past, behind_front, coprime_behind}
 use Rattle.rinv_groebner.proofs.PastPolynomials.{is_zero-past, leading_monomial-past, s_polynomial-past}
-use Rattle.rinv_groebner.proofs.BasisPairs.{IsLower, s_polynomial-multiples, multiples-image}
+use Rattle.rinv_groebner.proofs.BasisPairs.{s_polynomial-multiples, multiples-image}
 use Rattle.rinv_groebner.proofs.CopiesLists.{copy_of, in_copies, copy_fits, copies-in_variables, copies-members}
 use Rattle.rinv_groebner.proofs.Reducible.{place-inside}
-
--- grevlex orders the monomials in v variables
-pub grevlex_orders : (v : ℕ) → OrdersMonomials grevlex v
-grevlex_orders v = record { laws = grevlex_laws; ties = λ a b la lb e. grevlex_ties a b (la ∙ sym lb) e }
 
 abbrev below : (n : ℕ) → Monomial → Monomial → Type 0
 below n a b = (all_monomials grevlex n (grevlex_orders n)).below a b

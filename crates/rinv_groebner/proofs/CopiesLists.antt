@@ -2,7 +2,7 @@
 --   copy_of, in_copies   an element of the copies is one of some copy, and the other way round
 --   copies-nonzero, copies-in_variables    the copies have no zero; their variables
 --   copies-members       copies of members of an ideal are members of the copies of the ideal
-use Rattle.std.proofs.Common.{◌≡◌, ◌⊎◌, ℕ, zero, suc, ◌+◌, ◌*◌, ◌<◌, ◌≤◌, Bool, not, List, [], ◌∷◌, ◌++◌, map, length, length-append, replicate, get_or, refl, sym, ◌∙◌, ap, subst, inl, inr, arith, IsTrue}
+use Rattle.std.proofs.Common.{◌≡◌, ◌⊎◌, ℕ, zero, suc, ◌+◌, ◌*◌, ◌<◌, ◌≤◌, Bool, not, List, [], ◌∷◌, ◌++◌, map, length, length-append, replicate, refl, sym, ◌∙◌, ap, subst, inl, inr, arith, IsTrue}
 use Rattle.std.specs.Prelude.{nat_le, flat_map}
 use Rattle.std.specs.List.{list_all, range_with_len}
 use Rattle.std.proofs.lemmas.Bool.{cases_order}

@@ -58,3 +58,5 @@ pub mod PastPolynomials
 pub mod CopiesLists
 pub mod BasisPairs
 pub mod CopiesBasis
+pub mod FurtherVariables
+pub mod KnownOrders

@@ -2,7 +2,7 @@
 --   is_zero-past         one is zero where the polynomial is
 --   leading_monomial-past    its leading monomial has k zeros before that of the polynomial
 --   s_polynomial-past    the S-polynomial of two is that of the polynomials, in these variables
-use Rattle.std.proofs.Common.{◌≡◌, ℕ, Bool, true, false, not, cond, List, [], ◌∷◌, ◌++◌, map, filter, replicate, refl, sym, ◌∙◌, ap, ap₂, IsTrue}
+use Rattle.std.proofs.Common.{◌≡◌, ℕ, Bool, true, false, not, cond, List, [], ◌∷◌, ◌++◌, map, filter, replicate, refl, sym, ◌∙◌, ap, ap₂}
 use Rattle.std.specs.Prelude.{◌&&◌, IsFalse, fold, unwrap_or, if◌then◌else◌}
 use Rattle.std.specs.List.{list_all, reduce}
 use Rattle.std.specs.Ordering.{is_lt}
