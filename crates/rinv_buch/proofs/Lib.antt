@@ -18,3 +18,5 @@ pub mod Inserted
 pub mod TakenOut
 pub mod Makings
 pub mod MadeSoFar
+pub mod CombinedSums
+pub mod JournalSteps
