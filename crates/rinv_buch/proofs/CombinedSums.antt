@@ -3,7 +3,7 @@
 --   combination-total    a combination is such a sum
 --   rest-sums            what an entry adds
 --   combines-sums        all elements
-use Rattle.std.proofs.Common.{◌≡◌, ℕ, suc, ◌<◌, Bool, true, false, not, cond, List, [], ◌∷◌, ◌++◌, length, get_or, set, replicate, map, filter, All, refl, sym, ◌∙◌, ap, ap₂, subst, arith, append-nil}
+use Rattle.std.proofs.Common.{◌≡◌, ℕ, zero, suc, ◌+◌, ◌<◌, Bool, true, false, not, cond, List, [], ◌∷◌, ◌++◌, length, get_or, set, replicate, map, filter, All, refl, sym, ◌∙◌, ap, ap₂, subst, arith, append-nil}
 use Rattle.std.specs.List.{range_with_len, AllZip}
 use Rattle.std.specs.declared.cmp.Ordering.{Ordering}
 use Rattle.std.proofs.lemmas.List.{get_or-map, length-map, map-append}
@@ -32,9 +32,9 @@ use Rattle.rinv_buch.specs.Combining.{AreCofactors, Combines, cofactor, column, 
 use Rattle.rinv_buch.specs.Runs.{s_at}
 
 module _ {R : Type 0} (𝓡 : CRing R) where
-  open 𝓡 use {add, mul, neg, zero}
+  open 𝓡 use {add, mul, neg, zero as nought}
 
-  no_product : (g : R) → add (mul zero g) zero ≡ zero
+  no_product : (g : R) → add (mul nought g) nought ≡ nought
   no_product g = ring 𝓡 (g ∷ []) (search reading depth 30) refl
 
   product_first : (u a q g x y : R) → add (mul (add (mul u a) q) g) (add (mul u x) y) ≡ add (mul u (add (mul a g) x)) (add (mul q g) y)
@@ -43,10 +43,10 @@ module _ {R : Type 0} (𝓡 : CRing R) where
   pair_first : (u w a b q g x y z : R) → add (mul (add (add (mul u a) (neg (mul w b))) (neg q)) g) (add (add (mul u x) (neg (mul w y))) (neg z)) ≡ add (add (mul u (add (mul a g) x)) (neg (mul w (add (mul b g) y)))) (neg (add (mul q g) z))
   pair_first u w a b q g x y z = ring 𝓡 (u ∷ w ∷ a ∷ b ∷ q ∷ g ∷ x ∷ y ∷ z ∷ []) (search reading depth 30) refl
 
-  nothing_less : (u w : R) → zero ≡ add (add (mul u zero) (neg (mul w zero))) (neg zero)
+  nothing_less : (u w : R) → nought ≡ add (add (mul u nought) (neg (mul w nought))) (neg nought)
   nothing_less u w = ring 𝓡 (u ∷ w ∷ []) (search reading depth 30) refl
 
-  nothing_more : (u : R) → zero ≡ add (mul u zero) zero
+  nothing_more : (u : R) → nought ≡ add (mul u nought) nought
   nothing_more u = ring 𝓡 (u ∷ []) (search reading depth 30) refl
 
   taken_away : (s c r : R) → s ≡ add c r → r ≡ add s (neg c)
@@ -54,16 +54,16 @@ module _ {R : Type 0} (𝓡 : CRing R) where
 
   -- c(0)*g_0 + c(1)*g_1 + ..
   abbrev total : (ℕ → R) → List R → R
-  total c [] = zero
+  total c [] = nought
   total c (g ∷ gs) = add (mul (c 0) g) (total (λ m. c (suc m)) gs)
 
   total-agree : (c d : ℕ → R) (gs : List R) → ((m : ℕ) → m < length gs → c m ≡ d m) → total c gs ≡ total d gs
   total-agree c d [] h = refl
   total-agree c d (g ∷ gs) h = ap₂ (λ x y. add (mul x g) y) (h 0 (omega arith)) (total-agree (λ m. c (suc m)) (λ m. d (suc m)) gs (λ m low. h (suc m) (omega (arith, low))))
 
-  total-zero : (gs : List R) → total (λ m. zero) gs ≡ zero
+  total-zero : (gs : List R) → total (λ m. nought) gs ≡ nought
   total-zero [] = refl
-  total-zero (g ∷ gs) = ap (add (mul zero g)) (total-zero gs) ∙ no_product g
+  total-zero (g ∷ gs) = ap (add (mul nought g)) (total-zero gs) ∙ no_product g
 
   total-product : (u : R) (a q : ℕ → R) (gs : List R) → total (λ m. add (mul u (a m)) (q m)) gs ≡ add (mul u (total a gs)) (total q gs)
   total-product u a q [] = nothing_more u
@@ -74,7 +74,7 @@ module _ {R : Type 0} (𝓡 : CRing R) where
   total-pair u w a b q (g ∷ gs) = ap (add (mul (add (add (mul u (a 0)) (neg (mul w (b 0)))) (neg (q 0))) g)) (total-pair u w (λ m. a (suc m)) (λ m. b (suc m)) (λ m. q (suc m)) gs) ∙ pair_first u w (a 0) (b 0) (q 0) g _ _ _
 
 get_or-nil : {X : Type 0} (d : X) (k : ℕ) → get_or [] k d ≡ d
-get_or-nil d 0 = refl
+get_or-nil d zero = refl
 get_or-nil d (suc k) = refl
 
 filter-map : {X Y : Type 0} (p : Y → Bool) (f : X → Y) (xs : List X) → filter p (map f xs) ≡ map f (filter (λ x. p (f x)) xs)
@@ -108,15 +108,15 @@ module _ {E : Type 0} (o : RingOps E) (l : RingLaws o) where
   -- zeros make nothing
   zeros-sum : (n : ℕ) (fs : List (Polynomial E)) → combination o (replicate n []) fs ≡ []
   unfolding combination product
-  zeros-sum 0 fs = refl
+  zeros-sum zero fs = refl
   zeros-sum (suc n) [] = refl
   zeros-sum (suc n) (f ∷ fs) = zeros-sum n fs
 
   -- a unit list makes the polynomial at its place
   unit-sum : (fs : List (Polynomial E)) (k : ℕ) → k < length fs → IsSame (poly_ops o) (combination o (unit o (length fs) k) fs) (get_or fs k [])
-  unfolding combination
+  unfolding combination product
   unit-sum [] k low = absurd (omega (arith, low))
-  unit-sum (f ∷ fs) 0 low =
+  unit-sum (f ∷ fs) zero low =
       facts.then (poly_ops o) (poly_laws o l) (facts.of_same (poly_ops o) (poly_laws o l) (ap (λ r. product o ((poly_ops o).one) f ++ r) (zeros-sum (length fs) fs) ∙ append-nil (product o ((poly_ops o).one) f)))
       (facts.one_mul (poly_ops o) (poly_laws o l) f)
   unit-sum (f ∷ fs) (suc k) low = unit-sum fs k (omega (arith, low))
@@ -195,8 +195,11 @@ module _ {E : Type 0} (o : RingOps E) (l : RingLaws o) where
 
     places-inside : All (λ k. k < length given) (nonzero_places o given)
     places-inside = All-filter (λ k. not (is_zero o (get_or given k []))) (λ k. k < length given) (range_with_len 0 (length given))
-        (All-from_get_or (λ k. k < length given) (range_with_len 0 (length given)) 0 (λ k low. subst (λ (x : ℕ). x < length given) (sym (get_or-range_with_len 0 (length given) k 0 (inside k low))) (inside k low)))
+        (All-from_get_or (λ k. k < length given) (range_with_len 0 (length given)) 0 (λ k low. subst (λ (x : ℕ). x < length given) (sym (get_or-range_with_len 0 (length given) k 0 (inside k low) ∙ from_zero k)) (inside k low)))
       where
+        from_zero : (k : ℕ) → 0 + k ≡ k
+        from_zero k = omega arith
+
         inside : (k : ℕ) → k < length (range_with_len 0 (length given)) → k < length given
         inside k low = omega (arith, low, length-range_with_len 0 (length given))
 

@@ -98,11 +98,11 @@ module _ {E : Type 0} (o : RingOps E) (cmp : List ℕ → List ℕ → Ordering)
       pub left : Continues (take k journal) (take (length lists) polys) (drop k journal) polys
 
     -- before any entry
-    pub combined-begin : (journal : List Entry) (polys : List (Polynomial E)) (lists : List (List (Polynomial E))) → Journal o cmp given journal polys → AllZip (AreSame o) lists (units o given) → IsCombined journal polys 0 lists
-    combined-begin journal polys lists j s =
+    pub combined-begin : RingLaws o → (journal : List Entry) (polys : List (Polynomial E)) (lists : List (List (Polynomial E))) → Journal o cmp given journal polys → AllZip (AreSame o) lists (units o given) → IsCombined journal polys 0 lists
+    combined-begin l journal polys lists j s =
         let (start, same, c) = journal-begins journal polys j in
         let (more, is) = continues-front [] start journal polys c in
-        let many : length lists ≡ length start = length_all_zip (AreSame o) lists (units o given) s ∙ units-number o given ∙ sym (length_all_zip (IsSame (poly_ops o)) start (nonzeros o given) same) in
+        let many : length lists ≡ length start = length_all_zip (AreSame o) lists (units o given) s ∙ units-number o l given ∙ sym (length_all_zip (IsSame (poly_ops o)) start (nonzeros o given) same) in
         let front : take (length lists) polys ≡ start = ap (take (length lists)) is ∙ take-append-le (length lists) start more (omega (arith, many)) ∙ take_all (length lists) start (omega (arith, many)) in
         record {
           few = let n = ap length is in let m = length-append start more in omega (arith, n, m, many);

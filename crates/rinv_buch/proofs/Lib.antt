@@ -20,3 +20,5 @@ pub mod Makings
 pub mod MadeSoFar
 pub mod CombinedSums
 pub mod JournalSteps
+pub mod Cofactors
+pub mod PairMultipliers

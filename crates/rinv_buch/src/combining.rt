@@ -50,9 +50,9 @@ pub fn combinations<F: Field, O: MonoOrder>(
     let mut divisors = divisors_of(ring, alloc, &basis.polys[..lists.len()], order)?;
     'entries: for entry in &basis.journal {
         if adds(entry) {
-            let (first, second) = (entry.first as usize, entry.second as usize);
             let polys = &basis.polys[..lists.len()];
-            let list = rest_cofactors(ring, alloc, polys, &divisors, &lists, first, second, order)?;
+            let count = given.len();
+            let list = rest_cofactors(ring, alloc, polys, &divisors, &lists, count, entry, order)?;
             divisors.push(ring, alloc, &basis.polys[lists.len()], order)?;
             lists.push(list)?;
         }
@@ -135,15 +135,15 @@ fn divisors_of<F: Field, O: MonoOrder>(
     Ok(divisors)
 }
 
-// The cofactors of the rest of a pair, over the list as it is.
+// The cofactors of the rest that the entry adds to the list.
 fn rest_cofactors<F: Field, O: MonoOrder>(
     ring: &PolyRing<F>,
     alloc: Global,
     polys: &[Poly<F>],
     divisors: &Divisors<F>,
     lists: &[Vec<Poly<F>>],
-    first: usize,
-    second: usize,
+    count: usize,
+    entry: &Entry,
     order: &O,
 ) -> Result<Vec<Poly<F>>, RingFault>
     requires polys { All (IsNormal (F.ops ring.now.coeffs) (F.is_element ring.now.coeffs) ring.now.vars) polys.now }
@@ -151,20 +151,21 @@ fn rest_cofactors<F: Field, O: MonoOrder>(
     requires suits { O.fits order.now ring.now.vars }
     requires many { length lists.now ≡ length polys.now }
     requires lists { All (λ us. All (IsNormal (F.ops ring.now.coeffs) (F.is_element ring.now.coeffs) ring.now.vars) us.items) lists.now }
-    requires lengths { (n : ℕ) × All (λ us. length us.items ≡ n) lists.now }
-    requires ascending { first < second }
-    requires inside { second < length polys.now }
+    requires lengths { All (λ us. length us.items ≡ count) lists.now }
+    requires ascending { entry.now.first < entry.now.second }
+    requires inside { entry.now.second < length polys.now }
     ensures normal { IfOk result (λ us. All (IsNormal (F.ops ring.now.coeffs) (F.is_element ring.now.coeffs) ring.now.vars) us.items) }
-    ensures cofactors { (n : ℕ) → All (λ us. length us.items ≡ n) lists.now → IfOk result (λ us. (rest : Polynomial F.Elem) × AreCofactors (F.ops ring.now.coeffs) (O.cmp order.now) n polys.now (map (λ us. us.items) lists.now) first second rest us.items) }
-    ensures degree { IfErr result (DegreesMeet (RestMeets (F.ops ring.now.coeffs) (O.cmp order.now) (F.too_high ring.now.coeffs) polys.now (map (λ us. us.items) lists.now) first second)) }
+    ensures cofactors { IfOk result (λ us. (rest : Polynomial F.Elem) × AreCofactors (F.ops ring.now.coeffs) (O.cmp order.now) count polys.now (map (λ us. us.items) lists.now) entry.now.first entry.now.second rest us.items) }
+    ensures degree { IfErr result (DegreesMeet (RestMeets (F.ops ring.now.coeffs) (O.cmp order.now) (F.too_high ring.now.coeffs) polys.now (map (λ us. us.items) lists.now) entry.now.first entry.now.second)) }
 {
+    let (first, second) = (entry.first as usize, entry.second as usize);
     let (f, g) = (&polys[first], &polys[second]);
     let left = multiplier_of(ring, alloc, f, g, order)?;
     let right = multiplier_of(ring, alloc, g, f, order)?;
     let s = s_polynomial_of(ring, alloc, f, g, order)?;
     let quotients = quotients_of(ring, alloc, &s, polys, divisors, order)?;
-    let mut cofactors = Vec::with_capacity(alloc, lists[first].len())?;
-    'places: for place in 0..lists[first].len() {
+    let mut cofactors = Vec::with_capacity(alloc, count)?;
+    'places: for place in 0..count {
         let (a, b) = (&lists[first][place], &lists[second][place]);
         let cofactor = cofactor_at(ring, alloc, &left, a, &right, b, &quotients, lists, place)?;
         cofactors.push(cofactor)?;

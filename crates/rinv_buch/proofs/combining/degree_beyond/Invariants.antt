@@ -1,6 +1,6 @@
-use Rattle.std.proofs.Common.{◌≡◌, take}
-use Rattle.rinv_algebra.specs.Monomial.{quotient, lcm, total_degree}
+use Rattle.std.proofs.Common.{◌≡◌, ◌+◌, drop}
+use Rattle.rinv_buch.proofs.PairMultipliers.{beyond}
 use Rattle.rinv_buch.proofs.combining.degree_beyond.Given as goal
 
 abbrev pub invariant-variables : goal.invariant-variables
-invariant-variables l = l.degree ≡ total_degree (quotient (lcm (take l.k l.mono) (take l.k l.other)) (take l.k l.mono))
+invariant-variables l = l.degree + beyond (drop l.k l.mono) (drop l.k l.other) ≡ beyond l.mono l.other
