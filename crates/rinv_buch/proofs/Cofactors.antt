@@ -3,7 +3,7 @@
 --   column-more          the sum over a column, one product more
 --   combined-value, combined-meets    the cofactor, by polynomials that are the multipliers
 --   units-more, units-same            unit lists, one place more
-use Rattle.std.proofs.Common.{◌≡◌, ◌⊎◌, ℕ, zero, suc, ◌+◌, ◌<◌, Bool, true, false, not, List, [], ◌∷◌, ◌++◌, length, get_or, set, replicate, map, filter, take, All, cond, refl, sym, ◌∙◌, ap, ap₂, subst, subst₂, inl, inr, arith, append-nil}
+use Rattle.std.proofs.Common.{◌≡◌, ℕ, zero, suc, ◌+◌, ◌<◌, Bool, true, false, not, List, [], ◌∷◌, ◌++◌, length, get_or, set, replicate, map, filter, take, All, cond, refl, sym, ◌∙◌, ap, ap₂, subst, subst₂, inl, inr, arith, append-nil}
 use Rattle.std.specs.List.{range_with_len, AllZip}
 use Rattle.std.specs.declared.cmp.Ordering.{Ordering}
 use Rattle.std.proofs.lemmas.List.{get_or-map, take_more, length-take-le, length-map, map-append}
@@ -17,27 +17,32 @@ use Rattle.rinv_algebra.proofs.PolynomialLaws.{poly_laws}
 use Rattle.rinv_algebra.proofs.Products.{combination-push}
 use Rattle.rinv_algebra.proofs.RingFacts as facts
 use Rattle.rinv_groebner.specs.Division.{AreSame, Step, quotient_at, quotients}
-use Rattle.rinv_ring.specs.Operation.{RingOp, adds, multiplies}
+use Rattle.rinv_ring.specs.Operation.{RingOp, adds, subtracts, multiplies}
 use Rattle.rinv_ring.specs.Fault.{DegreesMeet}
 use Rattle.rinv_ring.specs.declared.fault.RingFault.{RingFault}
-use Rattle.rinv_poly.specs.Faults.{MonomialsMeet, OperationsMeet, polynomials_meet}
+use Rattle.rinv_poly.specs.Faults.{MonomialsMeet, CoefficientsMeet, polynomials_meet}
 use Rattle.rinv_poly.specs.Sums.{sum_of}
 use Rattle.rinv_poly.proofs.Meets.{meet-weaker}
 use Rattle.rinv_poly.proofs.Summands.{sum_of-push}
 use Rattle.rinv_div.specs.Stops.{Divides, ProductMeets, StepsMeet}
-use Rattle.rinv_buch.specs.Combining.{AreCofactors, RestMeets, cofactor, column, combined, unit}
+use Rattle.rinv_buch.specs.Combining.{AreCofactors, ColumnMeets, RestMeets, SumMeets, cofactor, column, combined, unit}
 use Rattle.rinv_buch.specs.Runs.{s_at}
 use Rattle.rinv_buch.proofs.PairDivision.{element-at, steps-same}
 use Rattle.rinv_buch.proofs.TermMultiples.{multiple-value, multiple-meets}
 
 module _ {E W : Type 0} (view : W → List (Polynomial E)) (lists : List W) (k m : ℕ) where
   -- an entry of the lists
-  pub cofactor-at : (w : W) (u : Polynomial E) → k < length lists → m < length (view w) → w ≡ get_or lists k w → u ≡ get_or (view w) m u → u ≡ cofactor (map view lists) k m
-  cofactor-at w u low inside at is = element-at (view w) m u inside is ∙ ap (λ (us : List (Polynomial E)). get_or us m []) (ap view at ∙ sym (get_or-map view lists k w [] low))
+  pub cofactor-at : (w : W) (u : Polynomial E) → k < length lists → All (λ w. m < length (view w)) lists → w ≡ get_or lists k w → u ≡ get_or (view w) m u → u ≡ cofactor (map view lists) k m
+  cofactor-at w u low inside at is =
+      element-at (view w) m u (subst (λ (x : W). m < length (view x)) (sym at) (inside k w low)) is ∙ ap (λ (us : List (Polynomial E)). get_or us m []) (ap view at ∙ sym (get_or-map view lists k w [] low))
 
   -- and of its column
   pub column-at : k < length lists → get_or (column (map view lists) m) k [] ≡ cofactor (map view lists) k m
   column-at low = get_or-map (λ us. get_or us m []) (map view lists) k [] [] (omega (arith, low, length-map lists view))
+
+-- a column has an entry for each list
+pub column-number : {E W : Type 0} (view : W → List (Polynomial E)) (qs : List (Polynomial E)) (lists : List W) (m : ℕ) → length qs ≡ length lists → length qs ≡ length (column (map view lists) m)
+column-number view qs lists m many = many ∙ sym (length-map lists view) ∙ sym (length-map (map view lists) (λ us. get_or us m []))
 
 itself : {X : Type 0} (xs : List X) → map (λ x. x) xs ≡ xs
 itself [] = refl
@@ -70,17 +75,48 @@ module _ {E : Type 0} (o : RingOps E) (l : RingLaws o) where
       (subst (λ (x : Polynomial E). IsSame (poly_ops o) x (combination o (take k qs) (take k cs) ++ product o q c)) (sym (sum_of-push products r))
       (p.add_same (sum_of products) (combination o (take k qs) (take k cs)) r (product o q c) so_far here))
 
-  -- the degrees of a quotient times a cofactor
-  pub product-meets : (high : RingOp → E → E → ℕ → ℕ → Type 0) (qs : List (Polynomial E)) (lists : List (List (Polynomial E))) (k m : ℕ) (q c : Polynomial E) → q ≡ get_or qs k [] → c ≡ cofactor lists k m
-      → (fault : RingFault) → DegreesMeet (polynomials_meet o high multiplies q c) fault
-      → DegreesMeet (λ x y. ((k : ℕ) × MonomialsMeet o (get_or qs k []) (cofactor lists k m) x y) ⊎ OperationsMeet high x y) fault
-  product-meets high qs lists k m q c at_q at_c fault meets =
-      meet-weaker (polynomials_meet o high multiplies q c) (λ x y. ((k : ℕ) × MonomialsMeet o (get_or qs k []) (cofactor lists k m) x y) ⊎ OperationsMeet high x y)
-      (λ x y p. elim p [
-        | inl meet ↦ inl (k, subst₂ (λ (f g : Polynomial E). MonomialsMeet o f g x y) at_q at_c meet)
-        | inr (inl h) ↦ inr (multiplies, h)
-        | inr (inr h) ↦ inr (adds, h)
-      ]) fault meets
+  module _ (high : RingOp → E → E → ℕ → ℕ → Type 0) (qs : List (Polynomial E)) (lists : List (List (Polynomial E))) (m : ℕ) where
+    -- the degrees of a quotient times a cofactor
+    pub product-meets : (k : ℕ) (q c : Polynomial E) → q ≡ get_or qs k [] → c ≡ cofactor lists k m → (fault : RingFault) → DegreesMeet (polynomials_meet o high multiplies q c) fault → DegreesMeet (ColumnMeets o high qs lists m) fault
+    product-meets k q c at_q at_c fault meets = meet-weaker (polynomials_meet o high multiplies q c) (ColumnMeets o high qs lists m)
+        (λ x y p. elim p [
+          | inl meet ↦ inl (k, subst₂ (λ (f g : Polynomial E). MonomialsMeet o f g x y) at_q at_c meet)
+          | inr (inl h) ↦ inr (multiplies, h)
+          | inr (inr h) ↦ inr (adds, h)
+        ]) fault meets
+
+    -- and of their sum
+    pub sum-meets : (fault : RingFault) → DegreesMeet (CoefficientsMeet high adds) fault → DegreesMeet (ColumnMeets o high qs lists m) fault
+    sum-meets fault meets = meet-weaker (CoefficientsMeet high adds) (ColumnMeets o high qs lists m) (λ x y h. inr (adds, h)) fault meets
+
+    module _ (left a right b : Polynomial E) where
+      pub left-meets : (fault : RingFault) → DegreesMeet (polynomials_meet o high multiplies left a) fault → DegreesMeet (SumMeets o high left a right b qs lists m) fault
+      left-meets fault meets = meet-weaker (polynomials_meet o high multiplies left a) (SumMeets o high left a right b qs lists m)
+          (λ x y p. elim p [
+            | inl meet ↦ inl meet
+            | inr (inl h) ↦ inr (inr (inr (multiplies, h)))
+            | inr (inr h) ↦ inr (inr (inr (adds, h)))
+          ]) fault meets
+
+      pub right-meets : (fault : RingFault) → DegreesMeet (polynomials_meet o high multiplies right b) fault → DegreesMeet (SumMeets o high left a right b qs lists m) fault
+      right-meets fault meets = meet-weaker (polynomials_meet o high multiplies right b) (SumMeets o high left a right b qs lists m)
+          (λ x y p. elim p [
+            | inl meet ↦ inr (inl meet)
+            | inr (inl h) ↦ inr (inr (inr (multiplies, h)))
+            | inr (inr h) ↦ inr (inr (inr (adds, h)))
+          ]) fault meets
+
+      pub less-meets : (fault : RingFault) → DegreesMeet (CoefficientsMeet high subtracts) fault → DegreesMeet (SumMeets o high left a right b qs lists m) fault
+      less-meets fault meets = meet-weaker (CoefficientsMeet high subtracts) (SumMeets o high left a right b qs lists m) (λ x y h. inr (inr (inr (subtracts, h)))) fault meets
+
+      pub column-meets : (fault : RingFault) → DegreesMeet (ColumnMeets o high qs lists m) fault → DegreesMeet (SumMeets o high left a right b qs lists m) fault
+      column-meets fault meets = meet-weaker (ColumnMeets o high qs lists m) (SumMeets o high left a right b qs lists m) (λ x y h. inr (inr h)) fault meets
+
+  -- the cofactor at a place, part by part
+  pub cofactor-value : (x y z c r u v w : Polynomial E) → IsSame (poly_ops o) x u → IsSame (poly_ops o) y v → IsSame (poly_ops o) z (difference o x y) → IsSame (poly_ops o) c w → IsSame (poly_ops o) r (difference o z c) → IsSame (poly_ops o) r (difference o (difference o u v) w)
+  cofactor-value x y z c r u v w is_x is_y is_z is_c is_r =
+      let p = poly_laws o l in
+      facts.then (poly_ops o) p is_r (facts.add2 (poly_ops o) p (facts.then (poly_ops o) p is_z (facts.add2 (poly_ops o) p is_x (p.neg_same y v is_y))) (p.neg_same c w is_c))
 
   module _ (cmp : List ℕ → List ℕ → Ordering) (list : List (Polynomial E)) (lists : List (List (Polynomial E))) (i j : ℕ) (left right : Polynomial E)
       (is_left : IsSame (poly_ops o) left (multiplier o cmp (get_or list i []) (get_or list j []) ∷ [])) (is_right : IsSame (poly_ops o) right (multiplier o cmp (get_or list j []) (get_or list i []) ∷ [])) where
@@ -97,12 +133,12 @@ module _ {E : Type 0} (o : RingOps E) (l : RingLaws o) where
 
     -- the degrees that it meets
     pub combined-meets : (high : RingOp → E → E → ℕ → ℕ → Type 0) (s : Polynomial E) → IsSame (poly_ops o) s (s_at o cmp list i j) → (qs : List (Polynomial E)) → (rest : Polynomial E) × (steps : List (Step E)) × Divides o cmp list s qs rest steps → (m : ℕ) (a b : Polynomial E) → a ≡ cofactor lists i m → b ≡ cofactor lists j m
-        → (fault : RingFault) → DegreesMeet (λ x y. MonomialsMeet o left a x y ⊎ (MonomialsMeet o right b x y ⊎ (((k : ℕ) × MonomialsMeet o (get_or qs k []) (cofactor lists k m) x y) ⊎ OperationsMeet high x y))) fault
+        → (fault : RingFault) → DegreesMeet (SumMeets o high left a right b qs lists m) fault
         → DegreesMeet (RestMeets o cmp high list lists i j) fault
     combined-meets high s is_s qs (rest, steps, d) m a b at_a at_b fault meets =
         let first = multiplier o cmp (get_or list i []) (get_or list j []) in
         let second = multiplier o cmp (get_or list j []) (get_or list i []) in
-        meet-weaker (λ x y. MonomialsMeet o left a x y ⊎ (MonomialsMeet o right b x y ⊎ (((k : ℕ) × MonomialsMeet o (get_or qs k []) (cofactor lists k m) x y) ⊎ OperationsMeet high x y))) (RestMeets o cmp high list lists i j)
+        meet-weaker (SumMeets o high left a right b qs lists m) (RestMeets o cmp high list lists i j)
         (λ x y p. elim p [
           | inl meet ↦ elim (multiple-meets o l first.0 first.1 left a is_left high x y (inl meet)) [
             | inl found ↦ RestMeets.in_first m (subst (λ (c : Polynomial E). ProductMeets o first.0 c x y) at_a found)

@@ -2,7 +2,7 @@
 use Rattle.std.proofs.Common.{◌≡◌, ℕ, ◌+◌, ◌-◌, ◌<◌, ◌≤◌, List, [], ◌∷◌, length, get_or, drop, max, refl, sym, ◌∙◌, ap, ap₂, subst, arith, IsTrue}
 use Rattle.std.specs.Prelude.{IsFalse}
 use Rattle.std.specs.declared.cmp.Ordering.{Ordering}
-use Rattle.std.proofs.lemmas.List.{drop_more}
+use Rattle.std.proofs.lemmas.List.{drop_more, drop_all}
 use Rattle.std.proofs.lemmas.List.Sums.{sum_by-cons}
 use Rattle.rinv_algebra.specs.Ring.{RingOps, RingLaws, IsSame}
 use Rattle.rinv_algebra.specs.Monomial.{quotient, lcm, total_degree, max_degree}
@@ -38,6 +38,23 @@ beyond-drop a b k la lb =
     let rest = quotient (lcm (drop (k + 1) a) (drop (k + 1) b)) (drop (k + 1) a) in
     let cons : total_degree ((max x y - x) ∷ rest) ≡ (max x y - x) + total_degree rest = sum_by-cons (λ (n : ℕ). n) (max x y - x) rest in
     ap₂ beyond (drop_more a k 0 la) (drop_more b k 0 lb) ∙ cons ∙ ap (λ (n : ℕ). n + total_degree rest) (omega arith)
+
+-- all variables
+pub beyond-end : (a b : List ℕ) (k degree : ℕ) → length a ≤ k → length b ≤ k → degree + beyond (drop k a) (drop k b) ≡ beyond a b → degree ≡ beyond a b
+unfolding quotient lcm
+beyond-end a b k degree past past' e = omega (arith, e, ap₂ beyond (drop_all k a past) (drop_all k b past'))
+
+-- one variable more
+module _ (a b own others : List ℕ) (is_own : own ≡ a) (is_others : others ≡ b) (vars : length a ≡ length b) (k degree here : ℕ) (inside : k < length own) (is_here : here ≡ get_or others k 0 - get_or own k 0) (so_far : degree + beyond (drop k a) (drop k b) ≡ beyond a b) where
+  pub beyond-next : degree + here + beyond (drop (k + 1) a) (drop (k + 1) b) ≡ beyond a b
+  beyond-next =
+      let low : k < length a = omega (arith, inside, ap length is_own) in
+      let e = beyond-drop a b k low (omega (arith, low, vars)) in
+      let is : here ≡ get_or b k 0 - get_or a k 0 = is_here ∙ ap₂ (λ (xs ys : List ℕ). get_or xs k 0 - get_or ys k 0) is_others is_own in
+      omega (arith, e, is, so_far)
+
+  pub beyond-bound : degree + here ≤ total_degree b
+  beyond-bound = omega (arith, beyond-next, beyond-le a b)
 
 module _ {E : Type 0} (o : RingOps E) (l : RingLaws o) (cmp : List ℕ → List ℕ → Ordering) (f g : Polynomial E) (a b : List ℕ) (is_a : a ≡ leading_monomial o cmp f) (is_b : b ≡ leading_monomial o cmp g) where
   -- the multiplier, by its monomial and its coefficient

@@ -1,5 +1,5 @@
 -- Cofactors of the elements that a journal makes, over the polynomials given: how each entry makes those of the rest that it adds.
-use Rattle.std.specs.Prelude.{◌≡◌, ℕ, ◌<◌, Bool, true, false, not, Some, None, List, [], ◌∷◌, ◌++◌, map, filter, length, get_or, set, replicate}
+use Rattle.std.specs.Prelude.{◌≡◌, ◌⊎◌, ℕ, ◌<◌, Bool, true, false, not, Some, None, List, [], ◌∷◌, ◌++◌, map, filter, length, get_or, set, replicate}
 use Rattle.std.specs.List.{range_with_len, AllZip}
 use Rattle.std.specs.declared.cmp.Ordering.{Ordering}
 use Rattle.rinv_algebra.specs.Ring.{RingOps, IsSame}
@@ -42,6 +42,14 @@ module _ {E : Type 0} (o : RingOps E) where
   -- the unit lists of these places
   abbrev pub units : List (Polynomial E) → List (List (Polynomial E))
   units fs = map (unit (length fs)) (nonzero_places fs)
+
+  -- a quotient times its cofactor over the polynomial given at place m meets these degrees, or an operation on coefficients does
+  abbrev pub ColumnMeets : (RingOp → E → E → ℕ → ℕ → Type 0) → List (Polynomial E) → List (List (Polynomial E)) → ℕ → ℕ → ℕ → Type 0
+  ColumnMeets too_high qs lists m x y = ((k : ℕ) × MonomialsMeet o (get_or qs k []) (cofactor lists k m) x y) ⊎ OperationsMeet too_high x y
+
+  -- so does one of these, or one of the products left*a and right*b
+  abbrev pub SumMeets : (RingOp → E → E → ℕ → ℕ → Type 0) → Polynomial E → Polynomial E → Polynomial E → Polynomial E → List (Polynomial E) → List (List (Polynomial E)) → ℕ → ℕ → ℕ → Type 0
+  SumMeets too_high left a right b qs lists m x y = MonomialsMeet o left a x y ⊎ (MonomialsMeet o right b x y ⊎ ColumnMeets too_high qs lists m x y)
 
 module _ {E : Type 0} (o : RingOps E) (cmp : List ℕ → List ℕ → Ordering) where
   -- the two elements' cofactors over the polynomial given at place m, combined as the S-polynomial is of the elements, less the quotients

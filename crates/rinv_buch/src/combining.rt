@@ -1,6 +1,6 @@
 //! The cofactors of a Gröbner basis over the polynomials given, made along its journal.
 
-ghost use Rattle.std.specs.Prelude.{◌≡◌, ◌<◌, ◌≤◌, ◌⊎◌, ℕ, List, [], ◌∷◌, length, get_or, map, false, All, IfOk, IfErr, OnOk};
+ghost use Rattle.std.specs.Prelude.{◌≡◌, ◌<◌, ◌≤◌, ℕ, List, [], ◌∷◌, length, get_or, map, false, All, IfOk, IfErr, OnOk};
 ghost use Rattle.std.specs.List.{AllZip};
 ghost use Rattle.rinv_algebra.specs.Ring.{IsSame};
 ghost use Rattle.rinv_algebra.specs.Monomial.{quotient, lcm, total_degree, max_degree};
@@ -11,11 +11,10 @@ ghost use Rattle.rinv_algebra.specs.Leading.{leading_monomial, multiplier};
 ghost use Rattle.rinv_groebner.specs.Division.{Step, AreSame};
 ghost use Rattle.rinv_groebner.specs.Journal.{Journal};
 ghost use Rattle.rinv_ring.specs.Fault.{DegreesMeet};
-ghost use Rattle.rinv_poly.specs.Faults.{MonomialsMeet, OperationsMeet};
 ghost use Rattle.rinv_div.specs.Divisors.{AreDivisors};
 ghost use Rattle.rinv_div.specs.Stops.{Divides, ProductMeets, StepsMeet};
 ghost use Rattle.rinv_buch.specs.Kinds.{kind_of};
-ghost use Rattle.rinv_buch.specs.Combining.{AreCofactors, Combines, CombiningMeets, RestMeets, adds, cofactor, column, unit, units};
+ghost use Rattle.rinv_buch.specs.Combining.{AreCofactors, ColumnMeets, Combines, CombiningMeets, RestMeets, SumMeets, adds, column, unit, units};
 
 use crate::kinds::{Basis, Entry, EntryKind};
 use crate::s_polynomial::{leading_term, s_polynomial_of};
@@ -282,7 +281,7 @@ fn cofactor_at<F: Field>(
     requires inside { All (λ us. place < length us.items) lists.now }
     ensures element { IfOk result (IsNormal (F.ops ring.now.coeffs) (F.is_element ring.now.coeffs) ring.now.vars) }
     ensures value { IfOk result (λ u. IsSame (poly_ops (F.ops ring.now.coeffs)) u (difference (F.ops ring.now.coeffs) (difference (F.ops ring.now.coeffs) (product (F.ops ring.now.coeffs) left.now a.now) (product (F.ops ring.now.coeffs) right.now b.now)) (combination (F.ops ring.now.coeffs) quotients.now (column (map (λ us. us.items) lists.now) place)))) }
-    ensures degree { IfErr result (DegreesMeet (λ x y. MonomialsMeet (F.ops ring.now.coeffs) left.now a.now x y ⊎ (MonomialsMeet (F.ops ring.now.coeffs) right.now b.now x y ⊎ (((k : ℕ) × MonomialsMeet (F.ops ring.now.coeffs) (get_or quotients.now k []) (cofactor (map (λ us. us.items) lists.now) k place) x y) ⊎ OperationsMeet (F.too_high ring.now.coeffs) x y)))) }
+    ensures degree { IfErr result (DegreesMeet (SumMeets (F.ops ring.now.coeffs) (F.too_high ring.now.coeffs) left.now a.now right.now b.now quotients.now (map (λ us. us.items) lists.now) place)) }
 {
     let first = ring.mul(alloc, left, a)?;
     let second = ring.mul(alloc, right, b)?;
@@ -306,7 +305,7 @@ fn column_sum<F: Field>(
     requires inside { All (λ us. place < length us.items) lists.now }
     ensures element { IfOk result (IsNormal (F.ops ring.now.coeffs) (F.is_element ring.now.coeffs) ring.now.vars) }
     ensures value { IfOk result (λ u. IsSame (poly_ops (F.ops ring.now.coeffs)) u (combination (F.ops ring.now.coeffs) quotients.now (column (map (λ us. us.items) lists.now) place))) }
-    ensures degree { IfErr result (DegreesMeet (λ x y. ((k : ℕ) × MonomialsMeet (F.ops ring.now.coeffs) (get_or quotients.now k []) (cofactor (map (λ us. us.items) lists.now) k place) x y) ⊎ OperationsMeet (F.too_high ring.now.coeffs) x y)) }
+    ensures degree { IfErr result (DegreesMeet (ColumnMeets (F.ops ring.now.coeffs) (F.too_high ring.now.coeffs) quotients.now (map (λ us. us.items) lists.now) place)) }
 {
     let mut products = Vec::with_capacity(alloc, quotients.len())?;
     'products: for k in 0..quotients.len() {
