@@ -1,12 +1,14 @@
 -- The cofactors of the rest of one pair: sums over a column, and the degrees that they meet.
 --   cofactor-at          an entry of the lists, as it is read
+--   each-more            one cofactor more
 --   column-more          the sum over a column, one product more
 --   combined-value, combined-meets    the cofactor, by polynomials that are the multipliers
 --   units-more, units-same            unit lists, one place more
 use Rattle.std.proofs.Common.{◌≡◌, ℕ, zero, suc, ◌+◌, ◌<◌, Bool, true, false, not, List, [], ◌∷◌, ◌++◌, length, get_or, set, replicate, map, filter, take, All, cond, refl, sym, ◌∙◌, ap, ap₂, subst, subst₂, inl, inr, arith, append-nil}
 use Rattle.std.specs.List.{range_with_len, AllZip}
 use Rattle.std.specs.declared.cmp.Ordering.{Ordering}
-use Rattle.std.proofs.lemmas.List.{get_or-map, take_more, length-take-le, length-map, map-append}
+use Rattle.std.proofs.lemmas.List.{get_or-map, get_or_append_left, get_or_push, take_more, length-take-le, length-map, map-append}
+use Rattle.std.proofs.lemmas.Bool.{cases_lt}
 use Rattle.std.proofs.lemmas.List.FromFn.{filter_of_map_range_with_len_more, length-map-range_with_len}
 use Rattle.std.proofs.lemmas.List.Elements.{AllZip-push, length_all_zip, All-head, All-tail}
 use Rattle.rinv_algebra.specs.Ring.{RingOps, RingLaws, IsSame}
@@ -25,7 +27,7 @@ use Rattle.rinv_poly.specs.Sums.{sum_of}
 use Rattle.rinv_poly.proofs.Meets.{meet-weaker}
 use Rattle.rinv_poly.proofs.Summands.{sum_of-push}
 use Rattle.rinv_div.specs.Stops.{Divides, ProductMeets, StepsMeet}
-use Rattle.rinv_buch.specs.Combining.{AreCofactors, ColumnMeets, RestMeets, SumMeets, cofactor, column, combined, unit}
+use Rattle.rinv_buch.specs.Combining.{AreCofactors, ColumnMeets, RestMeets, SumMeets, cofactor, column, combined, nonzero_places, unit}
 use Rattle.rinv_buch.specs.Runs.{s_at}
 use Rattle.rinv_buch.proofs.PairDivision.{element-at, steps-same}
 use Rattle.rinv_buch.proofs.TermMultiples.{multiple-value, multiple-meets}
@@ -36,9 +38,26 @@ module _ {E W : Type 0} (view : W → List (Polynomial E)) (lists : List W) (k m
   cofactor-at w u low inside at is =
       element-at (view w) m u (subst (λ (x : W). m < length (view x)) (sym at) (inside k w low)) is ∙ ap (λ (us : List (Polynomial E)). get_or us m []) (ap view at ∙ sym (get_or-map view lists k w [] low))
 
+  -- it has what all entries have
+  pub cofactor-has : (P : Polynomial E → Type 0) → All (λ w. All P (view w)) lists → (w : W) (u : Polynomial E) → k < length lists → All (λ w. m < length (view w)) lists → w ≡ get_or lists k w → u ≡ get_or (view w) m u → P u
+  cofactor-has P all w u low inside at is =
+      let own : All P (view w) = subst (λ (x : W). All P (view x)) (sym at) (all k w low) in
+      subst P (sym is) (own m u (subst (λ (x : W). m < length (view x)) (sym at) (inside k w low)))
+
+  -- it is inside
+  pub lengths-inside : (n : ℕ) → All (λ w. length (view w) ≡ n) lists → m < n → All (λ w. m < length (view w)) lists
+  lengths-inside n all h k d low = let e : length (view (get_or lists k d)) ≡ n = all k d low in omega (arith, e, h)
+
   -- and of its column
   pub column-at : k < length lists → get_or (column (map view lists) m) k [] ≡ cofactor (map view lists) k m
   column-at low = get_or-map (λ us. get_or us m []) (map view lists) k [] [] (omega (arith, low, length-map lists view))
+
+-- one item more
+pub each-more : {X : Type 0} (R : ℕ → X → Type 0) (d : X) (xs : List X) (x : X) (n : ℕ) → length xs ≡ n → ((m : ℕ) → m < n → R m (get_or xs m d)) → R n x → (m : ℕ) → m < n + 1 → R m (get_or (xs ++ x ∷ []) m d)
+each-more R d xs x n long all here m low = elim (cases_lt m n) [
+  | inl before ↦ subst (R m) (sym (get_or_append_left xs (x ∷ []) d m (omega (arith, before, long)))) (all m before)
+  | inr last ↦ let e : n ≡ m = omega (arith, last, low) in subst (λ (m : ℕ). R m (get_or (xs ++ x ∷ []) m d)) e (subst (R n) (sym (get_or_push xs x d n long)) here)
+]
 
 -- a column has an entry for each list
 pub column-number : {E W : Type 0} (view : W → List (Polynomial E)) (qs : List (Polynomial E)) (lists : List W) (m : ℕ) → length qs ≡ length lists → length qs ≡ length (column (map view lists) m)
@@ -172,8 +191,8 @@ module _ {E : Type 0} (o : RingOps E) (fs : List (Polynomial E)) (k : ℕ) (f : 
       ap (filter passes) (sym (itself (range_with_len 0 (k + 1)))) ∙ filter_of_map_range_with_len_more passes (λ x. x) 0 k k (omega arith) ∙ ap (λ (ks : List ℕ). filter passes ks ++ cond (passes k) (k ∷ []) []) (itself (range_with_len 0 k))
 
   -- one place more, of a polynomial that is not zero
-  pub units-more : (n : ℕ) (us : List (Polynomial E)) (before after : List (List (Polynomial E))) → is_zero o f ≡ false → after ≡ before ++ us ∷ [] → AreSame o us (unit o n k) → AllZip (AreSame o) before (map (unit o n) (filter (λ k. not (is_zero o (get_or fs k []))) (range_with_len 0 k)))
-      → AllZip (AreSame o) after (map (unit o n) (filter (λ k. not (is_zero o (get_or fs k []))) (range_with_len 0 (k + 1))))
+  pub units-more : (n : ℕ) (us : List (Polynomial E)) (before after : List (List (Polynomial E))) → is_zero o f ≡ false → after ≡ before ++ us ∷ [] → AreSame o us (unit o n k) → AllZip (AreSame o) before (map (unit o n) (nonzero_places o fs k))
+      → AllZip (AreSame o) after (map (unit o n) (nonzero_places o fs (k + 1)))
   unfolding passes places-more
   units-more n us before after off is same all =
       subst₂ (AllZip (AreSame o)) (sym is)
@@ -181,7 +200,7 @@ module _ {E : Type 0} (o : RingOps E) (fs : List (Polynomial E)) (k : ℕ) (f : 
       (AllZip-push (AreSame o) before (map (unit o n) (filter passes (range_with_len 0 k))) us (unit o n k) all same)
 
   -- and of one that is
-  pub units-same : is_zero o f ≡ true → filter (λ k. not (is_zero o (get_or fs k []))) (range_with_len 0 (k + 1)) ≡ filter (λ k. not (is_zero o (get_or fs k []))) (range_with_len 0 k)
+  pub units-same : is_zero o f ≡ true → nonzero_places o fs (k + 1) ≡ nonzero_places o fs k
   unfolding passes places-more
   units-same on = places-more ∙ ap (λ (g : Polynomial E). filter passes (range_with_len 0 k) ++ cond (not (is_zero o g)) (k ∷ []) []) (sym at) ∙ rw on (append-nil (filter passes (range_with_len 0 k)))
 

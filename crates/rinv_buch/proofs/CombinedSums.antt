@@ -182,18 +182,18 @@ module _ {E : Type 0} (o : RingOps E) (l : RingLaws o) where
           ∙ sym (taken_away (poly_ring o l) (poly (s_at o cmp list i j)) (poly (combination o c.quotients list)) (poly rest)
             (class_sound (poly_ops o) (poly_laws o l) _ _ (identity o l cmp list c.quotients (s_at o cmp list i j) rest c.steps c.divides) ∙ class-add (poly_ops o) (poly_laws o l) _ _))))
 
-    places-at : nonzeros o given ≡ map (λ k. get_or given k []) (nonzero_places o given)
+    places-at : nonzeros o given ≡ map (λ k. get_or given k []) (nonzero_places o given (length given))
     places-at = ap (filter (λ f. not (is_zero o f))) (fill_by_all (λ k. get_or given k []) given (length given) [] refl (λ k low. refl)) ∙ filter-map (λ f. not (is_zero o f)) (λ k. get_or given k []) (range_with_len 0 (length given))
 
     -- as many unit lists as polynomials that are not zero
     pub units-number : length (units o given) ≡ length (nonzeros o given)
-    units-number = length-map (nonzero_places o given) (unit o (length given)) ∙ sym (length-map (nonzero_places o given) (λ k. get_or given k [])) ∙ ap length (sym places-at)
+    units-number = length-map (nonzero_places o given (length given)) (unit o (length given)) ∙ sym (length-map (nonzero_places o given (length given)) (λ k. get_or given k [])) ∙ ap length (sym places-at)
 
     units-sum : (ks : List ℕ) → All (λ k. k < length given) ks → AreSame o (map (λ k. get_or given k []) ks) (sums (map (unit o (length given)) ks))
     units-sum [] low = tt
     units-sum (k ∷ ks) low = ((poly_laws o l).same_sym _ _ (unit-sum given k (All-head (λ k. k < length given) k ks low)), units-sum ks (All-tail (λ k. k < length given) k ks low))
 
-    places-inside : All (λ k. k < length given) (nonzero_places o given)
+    places-inside : All (λ k. k < length given) (nonzero_places o given (length given))
     places-inside = All-filter (λ k. not (is_zero o (get_or given k []))) (λ k. k < length given) (range_with_len 0 (length given))
         (All-from_get_or (λ k. k < length given) (range_with_len 0 (length given)) 0 (λ k low. subst (λ (x : ℕ). x < length given) (sym (get_or-range_with_len 0 (length given) k 0 (inside k low) ∙ from_zero k)) (inside k low)))
       where
@@ -213,7 +213,7 @@ module _ {E : Type 0} (o : RingOps E) (l : RingLaws o) where
     pub combines-sums : (cmp : List ℕ → List ℕ → Ordering) {journal : List Entry} {list : List (Polynomial E)} {lists : List (List (Polynomial E))} → Combines o cmp given journal list lists → SumUp list lists
     combines-sums cmp (Combines.begin list lists s t) =
         same_trans o l list (nonzeros o given) (sums lists) s (subst (λ (fs : List (Polynomial E)). AreSame o fs (sums lists)) (sym places-at)
-        (same_trans o l _ (sums (units o given)) (sums lists) (units-sum (nonzero_places o given) places-inside) (lists-same lists (units o given) t)))
+        (same_trans o l _ (sums (units o given)) (sums lists) (units-sum (nonzero_places o given (length given)) places-inside) (lists-same lists (units o given) t)))
     combines-sums cmp (Combines.stay journal list lists e c entry) = combines-sums cmp c
     combines-sums cmp (Combines.add journal list lists e rest us c entry of_rest) =
         let s = combines-sums cmp c in

@@ -35,13 +35,13 @@ module _ {E : Type 0} (o : RingOps E) where
   abbrev pub unit : ℕ → ℕ → List (Polynomial E)
   unit n place = set (replicate n []) place ((poly_ops o).one)
 
-  -- the places of the polynomials that are not zero
-  abbrev pub nonzero_places : List (Polynomial E) → List ℕ
-  nonzero_places fs = filter (λ k. not (is_zero o (get_or fs k []))) (range_with_len 0 (length fs))
+  -- the places among the first n whose polynomials are not zero
+  abbrev pub nonzero_places : List (Polynomial E) → ℕ → List ℕ
+  nonzero_places fs n = filter (λ k. not (is_zero o (get_or fs k []))) (range_with_len 0 n)
 
-  -- the unit lists of these places
+  -- the unit lists of the polynomials that are not zero
   abbrev pub units : List (Polynomial E) → List (List (Polynomial E))
-  units fs = map (unit (length fs)) (nonzero_places fs)
+  units fs = map (unit (length fs)) (nonzero_places fs (length fs))
 
   -- a quotient times its cofactor over the polynomial given at place m meets these degrees, or an operation on coefficients does
   abbrev pub ColumnMeets : (RingOp → E → E → ℕ → ℕ → Type 0) → List (Polynomial E) → List (List (Polynomial E)) → ℕ → ℕ → ℕ → Type 0
