@@ -1,0 +1,3 @@
+pub mod LawNames
+pub mod Parts
+pub mod Group
