@@ -23,8 +23,12 @@ pub record IsGroupBasis (s : System) (found : Found ℕ) (reduced : List Poly) :
   pub ascending : Ascend (residue_ops s.p) grevlex reduced
   pub reduced_normal : All (IsNormal (residue_ops s.p) (λ c. nat_lt c s.p) (group_count s)) reduced
 
+-- numbers modulo a prime have no degrees
+abbrev pub never : RingOp → ℕ → ℕ → ℕ → ℕ → Type 0
+never op a b x y = ⊥
+
 -- the list is whole, and the making of its reduced basis meets these degrees
-pub record HaltsReducing (s : System) (too_high : RingOp → ℕ → ℕ → ℕ → ℕ → Type 0) (before after : Budget) (h : Halted ℕ) : Type 0 where
+pub record HaltsReducing (s : System) (before after : Budget) (h : Halted ℕ) : Type 0 where
   pub journal : Journal (residue_ops s.p) grevlex s.ideal h.journal h.polys
   pub complete : IsComplete (residue_ops s.p) grevlex h.journal h.polys
   pub idle : IsTrue (is_zero (residue_ops s.p) h.working)
@@ -32,4 +36,4 @@ pub record HaltsReducing (s : System) (too_high : RingOp → ℕ → ℕ → ℕ
   pub left : ℕ
   pub right : ℕ
   pub why : h.why ≡ Degree left right
-  pub meets : ReducingMeets (residue_ops s.p) grevlex too_high h.polys left right
+  pub meets : ReducingMeets (residue_ops s.p) grevlex never h.polys left right

@@ -4,6 +4,7 @@
 mod group;
 mod law;
 mod parts;
+mod points;
 
 pub use group::{GroupBasis, group_basis};
 pub use law::LawName;
