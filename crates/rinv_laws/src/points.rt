@@ -98,21 +98,21 @@ pub(crate) fn unit_point(
     constants(alloc, ring, &system.unit)
 }
 
-// Copies of the polynomials, at the end of a list.
-fn append(
+// Copies of the polynomials.
+fn copies(
     alloc: Global,
     ring: &PolyRing<Gf>,
     fs: &[KPoly],
-    to: &mut Vec<KPoly>,
-) -> Result<(), NoMemory>
+) -> Result<Vec<KPoly>, NoMemory>
     requires { ArePolynomials ring.now.coeffs ring.now.vars fs.now }
-    ensures { OnOk result (to.new.items ≡ to.old.items ++ fs.now) }
+    ensures { IfOk result (λ r. r.items ≡ fs.now) }
 {
-    'polynomials: for f in fs {
-        let copy = ring.copy(alloc, f)?;
-        to.push(copy)?;
+    let mut copies = Vec::new(alloc);
+    'polynomials: for k in 0..fs.len() {
+        let copy = ring.copy(alloc, &fs[k])?;
+        copies.push(copy)?;
     }
-    Ok(())
+    Ok(copies)
 }
 
 // The coordinates of a point, and then those of another.
@@ -126,9 +126,9 @@ fn joined(
     requires b { ArePolynomials ring.now.coeffs ring.now.vars b.now }
     ensures { IfOk result (λ r. r.items ≡ a.now ++ b.now) }
 {
-    let mut point = Vec::new(alloc);
-    append(alloc, ring, a, &mut point)?;
-    append(alloc, ring, b, &mut point)?;
+    let mut point = copies(alloc, ring, a)?;
+    let mut others = copies(alloc, ring, b)?;
+    point.append(&mut others)?;
     Ok(point)
 }
 
@@ -238,7 +238,7 @@ pub(crate) fn ideal_at(
     at_point(alloc, &from, &system.ideal, ring, a)
 }
 
-// Puts the differences of two points, coordinate by coordinate, at the end of a list.
+// The differences of two points, coordinate by coordinate.
 pub(crate) fn differences(
     alloc: Global,
     ring: &PolyRing<Gf>,

@@ -1,0 +1,35 @@
+use Rattle.std.proofs.Common.{◌≡◌, ◌∙◌, ◌+◌, ◌*◌, ◌++◌, Bool, true, ℕ, List, length, arith, subst, sym, ap, refl}
+use Rattle.std.specs.Prelude.{OnOk, IfErr, IfOk}
+use Rattle.rinv_algebra.specs.Residue.{residue_ops}
+use Rattle.rinv_algebra.specs.Ring.{IsSame}
+use Rattle.rinv_algebra.specs.Polynomial.{poly_ops}
+use Rattle.rinv_ring.specs.Fault.{DegreesMeet}
+use Rattle.rinv_sub.proofs.Images.{AllZip-append}
+use Rattle.rinv_text.specs.Told.{Told}
+use Rattle.rinv_text.proofs.SystemParts.{parts-of, between}
+use Rattle.rinv_laws.specs.Points.{IsPoint, Misfits}
+use Rattle.rinv_laws.proofs.Computed.{over, point-is, point-joined, fit-is, values-of}
+use Rattle.rinv_laws.proofs.points.moved.Goals as goal
+
+pub at_point-requires-clause-field : goal.at_point-requires-clause-field
+at_point-requires-clause-field c = c.new.ensures.ring ∙ ap (λ (t : Told). t.system.p) c.system.view_is ∙ sym c.requires.field
+
+pub at_point-requires-clause-polynomials : goal.at_point-requires-clause-polynomials
+at_point-requires-clause-polynomials c =
+    over c.args.ring.now.coeffs c.args.system.now.system.p c.new.result.vars (length c.args.system.now.system.group + length c.args.system.now.system.space) c.deref.result.now c.args.system.now.system.action c.requires.field ?
+    (c.deref.ensures.value ∙ ap (λ (t : Told). t.system.action) c.system.view_is) (parts-of c.args.system.now.system c.requires.system).action
+
+pub at_point-requires-clause-point : goal.at_point-requires-clause-point
+at_point-requires-clause-point c = ?
+
+pub returns-clause-point : goal.returns-clause-point
+returns-clause-point c = ?
+
+pub returns-clause-value : goal.returns-clause-value
+returns-clause-value c x y h k = values-of c.args.ring.now.coeffs c.args.system.now.system.p c.deref.result.now c.args.system.now.system.action c.deref-2.result.now (c.args.a.now ++ c.args.x.now) (x ++ y) c.requires.field (c.deref.ensures.value ∙ ap (λ (t : Told). t.system.action) c.system.view_is) (c.deref-2.ensures.value ∙ c.in_ok-point.ensures) (AllZip-append (IsSame (poly_ops (residue_ops c.args.ring.now.coeffs))) c.args.a.now c.args.x.now x y h k) (λ r. r.items) c.at_point.result c.at_point.ensures.value
+
+pub returns-clause-fits : goal.returns-clause-fits
+returns-clause-fits c x y h k = subst (λ (b : Bool). OnOk c.at_point.result (b ≡ true)) (fit-is c.args.ring.now.coeffs c.args.system.now.system.p c.deref.result.now c.args.system.now.system.action c.deref-2.result.now (c.args.a.now ++ c.args.x.now) (x ++ y) c.requires.field (c.deref.ensures.value ∙ ap (λ (t : Told). t.system.action) c.system.view_is) (c.deref-2.ensures.value ∙ c.in_ok-point.ensures) (AllZip-append (IsSame (poly_ops (residue_ops c.args.ring.now.coeffs))) c.args.a.now c.args.x.now x y h k)) c.at_point.ensures.fits
+
+pub returns-clause-degree : goal.returns-clause-degree
+returns-clause-degree c x y h k = subst (λ (b : Bool). IfErr c.at_point.result (DegreesMeet (Misfits b))) (fit-is c.args.ring.now.coeffs c.args.system.now.system.p c.deref.result.now c.args.system.now.system.action c.deref-2.result.now (c.args.a.now ++ c.args.x.now) (x ++ y) c.requires.field (c.deref.ensures.value ∙ ap (λ (t : Told). t.system.action) c.system.view_is) (c.deref-2.ensures.value ∙ c.in_ok-point.ensures) (AllZip-append (IsSame (poly_ops (residue_ops c.args.ring.now.coeffs))) c.args.a.now c.args.x.now x y h k)) c.at_point.ensures.degree
