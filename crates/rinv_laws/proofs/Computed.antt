@@ -1,12 +1,14 @@
 -- What a computation at a point answers, from the point that the code has to the one that the definition has.
 --   fit-is, values-of      polynomials at a point
 --   over, point-is, point-joined    their forms
+--   seen, differences-of            lists as they are seen, and their differences
 use Rattle.std.proofs.Common.{◌≡◌, ℕ, ◌+◌, List, ◌++◌, map, length, refl, nat_lt}
-use Rattle.std.specs.Prelude.{Result, Ok, Err, IfOk}
+use Rattle.std.specs.Prelude.{zip, Result, Ok, Err, IfOk}
 use Rattle.std.specs.List.{list_all}
 use Rattle.std.proofs.lemmas.List.{length-append}
 use Rattle.std.proofs.lemmas.List.Elements.{All-append}
 use Rattle.rinv_algebra.specs.Residue.{residue_ops}
+use Rattle.rinv_algebra.specs.Polynomial.{difference}
 use Rattle.rinv_algebra.specs.Normal.{IsNormal}
 use Rattle.rinv_algebra.specs.Value.{substitute}
 use Rattle.rinv_algebra.specs.Fits.{substitution_fits}
@@ -30,6 +32,13 @@ point-joined p v k m a b x y = record {
   many = rw (length-append a b, x.many, y.many) refl;
   normal = All-append (IsNormal (residue_ops p) (λ c. nat_lt c p) v) a b x.normal y.normal;
 }
+
+-- the list as it is seen
+pub seen : (p : ℕ) (a b x : List Poly) → a ≡ b → AreSame (residue_ops p) b x → AreSame (residue_ops p) a x
+seen p a b x e h = rw e h
+
+pub differences-of : (p q : ℕ) (fs a b : List Poly) → p ≡ q → AreSame (residue_ops p) fs (map (λ c. difference (residue_ops p) c.0 c.1) (zip a b)) → AreSame (residue_ops p) fs (map (λ c. difference (residue_ops q) c.0 c.1) (zip a b))
+differences-of p q fs a b e h = rw (← e) h
 
 -- ---- polynomials at a point
 

@@ -1,0 +1,41 @@
+use Rattle.std.proofs.Common.{◌≡◌, ◌∙◌, ◌&&◌, ◌++◌, Bool, true, false, List, refl, sym, ap}
+use Rattle.std.proofs.lemmas.Result.{err_from_is_err_and}
+use Rattle.rinv_algebra.specs.Residue.{residue_ops}
+use Rattle.rinv_algebra.specs.Ring.{IsSame}
+use Rattle.rinv_algebra.specs.Polynomial.{poly_ops}
+use Rattle.rinv_algebra.proofs.Products.{and_false}
+use Rattle.rinv_groebner.specs.Division.{AreSame}
+use Rattle.rinv_sub.proofs.Images.{AllZip-append}
+use Rattle.rinv_defs.specs.System.{Poly, group_copy, space_behind, unit_point, at_point, times, inverse_of, moved, differences}
+use Rattle.rinv_defs.specs.Laws.{parts}
+use Rattle.rinv_laws.specs.Parts.{fit_at, times_fit, inverse_fits, moved_fits, parts_fit}
+use Rattle.rinv_laws.proofs.PointFacts.{misfits-weaker}
+use Rattle.rinv_laws.proofs.Computed.{seen, differences-of}
+use Rattle.rinv_laws.proofs.parts.inverses_are_points.Goals as goal
+
+pub returns-clause-value : goal.returns-clause-value
+unfolding parts
+returns-clause-value c = c.in_ok-parts.ensures.value (inverse_of c.args.system.now.system (group_copy c.args.system.now.system 0)) (seen c.args.ring.now.coeffs _ _ (inverse_of c.args.system.now.system (group_copy c.args.system.now.system 0)) c.deref-2.ensures.value (c.in_ok-inverse.ensures.value (group_copy c.args.system.now.system 0) (seen c.args.ring.now.coeffs _ _ (group_copy c.args.system.now.system 0) c.deref.ensures.value c.in_ok-a.ensures.value)))
+
+pub returns-clause-fits : goal.returns-clause-fits
+unfolding parts_fit
+returns-clause-fits c =
+    let fits_inverse : (inverse_fits c.args.system.now.system (group_copy c.args.system.now.system 0)) ≡ true = c.in_ok-inverse.ensures.fits (group_copy c.args.system.now.system 0) (seen c.args.ring.now.coeffs _ _ (group_copy c.args.system.now.system 0) c.deref.ensures.value c.in_ok-a.ensures.value) in
+    let fits_parts : (fit_at c.args.system.now.system (inverse_of c.args.system.now.system (group_copy c.args.system.now.system 0)) c.args.system.now.system.ideal) ≡ true = c.in_ok-parts.ensures.fits (inverse_of c.args.system.now.system (group_copy c.args.system.now.system 0)) (seen c.args.ring.now.coeffs _ _ (inverse_of c.args.system.now.system (group_copy c.args.system.now.system 0)) c.deref-2.ensures.value (c.in_ok-inverse.ensures.value (group_copy c.args.system.now.system 0) (seen c.args.ring.now.coeffs _ _ (group_copy c.args.system.now.system 0) c.deref.ensures.value c.in_ok-a.ensures.value))) in
+    rw (fits_inverse, fits_parts) refl
+
+pub returns-in_err-inverse-clause-degree : goal.returns-in_err-inverse-clause-degree
+unfolding parts_fit
+returns-in_err-inverse-clause-degree c =
+    let q = err_from_is_err_and c.from_residual-in_err-inverse.result c.from_residual-in_err-inverse.ensures.1 in
+    rw (q.1, q.2)
+    (misfits-weaker (inverse_fits c.args.system.now.system (group_copy c.args.system.now.system 0)) ((inverse_fits c.args.system.now.system (group_copy c.args.system.now.system 0)) && (fit_at c.args.system.now.system (inverse_of c.args.system.now.system (group_copy c.args.system.now.system 0)) c.args.system.now.system.ideal)) (λ no. ap (λ (t : Bool). t && (fit_at c.args.system.now.system (inverse_of c.args.system.now.system (group_copy c.args.system.now.system 0)) c.args.system.now.system.ideal)) (no))
+    c.in_err-inverse.field-0.0 (c.in_err-inverse.ensures.degree (group_copy c.args.system.now.system 0) (seen c.args.ring.now.coeffs _ _ (group_copy c.args.system.now.system 0) c.deref.ensures.value c.in_ok-a.ensures.value)))
+
+pub returns-in_err-parts-clause-degree : goal.returns-in_err-parts-clause-degree
+unfolding parts_fit
+returns-in_err-parts-clause-degree c =
+    let q = err_from_is_err_and c.from_residual-in_err-parts.result c.from_residual-in_err-parts.ensures.1 in
+    rw (q.1, q.2)
+    (misfits-weaker (fit_at c.args.system.now.system (inverse_of c.args.system.now.system (group_copy c.args.system.now.system 0)) c.args.system.now.system.ideal) ((inverse_fits c.args.system.now.system (group_copy c.args.system.now.system 0)) && (fit_at c.args.system.now.system (inverse_of c.args.system.now.system (group_copy c.args.system.now.system 0)) c.args.system.now.system.ideal)) (λ no. ap (λ (t : Bool). (inverse_fits c.args.system.now.system (group_copy c.args.system.now.system 0)) && t) (no) ∙ and_false (inverse_fits c.args.system.now.system (group_copy c.args.system.now.system 0)))
+    c.in_err-parts.field-0.0 (c.in_err-parts.ensures.degree (inverse_of c.args.system.now.system (group_copy c.args.system.now.system 0)) (seen c.args.ring.now.coeffs _ _ (inverse_of c.args.system.now.system (group_copy c.args.system.now.system 0)) c.deref-2.ensures.value (c.in_ok-inverse.ensures.value (group_copy c.args.system.now.system 0) (seen c.args.ring.now.coeffs _ _ (group_copy c.args.system.now.system 0) c.deref.ensures.value c.in_ok-a.ensures.value)))))
