@@ -30,6 +30,7 @@ fn variables(
     ensures point { IfOk result (λ r. IsPoint ring.now.coeffs ring.now.vars count r.items) }
     ensures value { IfOk result (λ r. AreSame (residue_ops ring.now.coeffs) r.items (map (variable (residue_ops ring.now.coeffs)) (range_with_len place count))) }
 {
+    let _vars = ring.vars();
     let mut point = Vec::new(alloc);
     'places: for k in 0..count {
         let coordinate = variable(alloc, place + k, ring)?;
@@ -50,6 +51,7 @@ pub(crate) fn group_copy(
     ensures point { IfOk result (λ r. IsPoint ring.now.coeffs ring.now.vars (group_count system.now.system) r.items) }
     ensures value { IfOk result (λ r. AreSame (residue_ops ring.now.coeffs) r.items (group_copy system.now.system copy)) }
 {
+    let _vars = ring.vars();
     let count = system.group.len();
     variables(alloc, ring, copy * count, count)
 }
@@ -66,6 +68,7 @@ pub(crate) fn space_behind(
     ensures point { IfOk result (λ r. IsPoint ring.now.coeffs ring.now.vars (space_count system.now.system) r.items) }
     ensures value { IfOk result (λ r. AreSame (residue_ops ring.now.coeffs) r.items (space_behind system.now.system copies)) }
 {
+    let _vars = ring.vars();
     let place = copies * system.group.len();
     variables(alloc, ring, place, system.space.len())
 }

@@ -15,27 +15,47 @@ use Rattle.rinv_laws.proofs.parts.inverses_are_points.Goals as goal
 
 pub returns-clause-value : goal.returns-clause-value
 unfolding parts
-returns-clause-value c = c.in_ok-parts.ensures.value (inverse_of c.args.system.now.system (group_copy c.args.system.now.system 0)) (seen c.args.ring.now.coeffs _ _ (inverse_of c.args.system.now.system (group_copy c.args.system.now.system 0)) c.deref-2.ensures.value (c.in_ok-inverse.ensures.value (group_copy c.args.system.now.system 0) (seen c.args.ring.now.coeffs _ _ (group_copy c.args.system.now.system 0) c.deref.ensures.value c.in_ok-a.ensures.value)))
+returns-clause-value c =
+    let s = c.args.system.now.system in
+    let p = c.args.ring.now.coeffs in
+    let a : List Poly = group_copy s 0 in
+    let is_a = c.in_ok-a.ensures.value in
+    let inverse' : List Poly = inverse_of s a in
+    let is_inverse = c.in_ok-inverse.ensures.value a (seen p _ _ a c.deref.ensures.value is_a) in
+    c.in_ok-parts.ensures.value inverse' (seen p _ _ inverse' c.deref-2.ensures.value is_inverse)
 
 pub returns-clause-fits : goal.returns-clause-fits
 unfolding parts_fit
 returns-clause-fits c =
-    let fits_inverse : (inverse_fits c.args.system.now.system (group_copy c.args.system.now.system 0)) ≡ true = c.in_ok-inverse.ensures.fits (group_copy c.args.system.now.system 0) (seen c.args.ring.now.coeffs _ _ (group_copy c.args.system.now.system 0) c.deref.ensures.value c.in_ok-a.ensures.value) in
-    let fits_parts : (fit_at c.args.system.now.system (inverse_of c.args.system.now.system (group_copy c.args.system.now.system 0)) c.args.system.now.system.ideal) ≡ true = c.in_ok-parts.ensures.fits (inverse_of c.args.system.now.system (group_copy c.args.system.now.system 0)) (seen c.args.ring.now.coeffs _ _ (inverse_of c.args.system.now.system (group_copy c.args.system.now.system 0)) c.deref-2.ensures.value (c.in_ok-inverse.ensures.value (group_copy c.args.system.now.system 0) (seen c.args.ring.now.coeffs _ _ (group_copy c.args.system.now.system 0) c.deref.ensures.value c.in_ok-a.ensures.value))) in
+    let s = c.args.system.now.system in
+    let p = c.args.ring.now.coeffs in
+    let a : List Poly = group_copy s 0 in
+    let is_a = c.in_ok-a.ensures.value in
+    let inverse' : List Poly = inverse_of s a in
+    let is_inverse = c.in_ok-inverse.ensures.value a (seen p _ _ a c.deref.ensures.value is_a) in
+    let fits_inverse : inverse_fits s a ≡ true = c.in_ok-inverse.ensures.fits a (seen p _ _ a c.deref.ensures.value is_a) in
+    let fits_parts : fit_at s inverse' s.ideal ≡ true = c.in_ok-parts.ensures.fits inverse' (seen p _ _ inverse' c.deref-2.ensures.value is_inverse) in
     rw (fits_inverse, fits_parts) refl
 
 pub returns-in_err-inverse-clause-degree : goal.returns-in_err-inverse-clause-degree
 unfolding parts_fit
 returns-in_err-inverse-clause-degree c =
+    let s = c.args.system.now.system in
+    let p = c.args.ring.now.coeffs in
+    let a : List Poly = group_copy s 0 in
+    let is_a = c.in_ok-a.ensures.value in
+    let inverse' : List Poly = inverse_of s a in
     let q = err_from_is_err_and c.from_residual-in_err-inverse.result c.from_residual-in_err-inverse.ensures.1 in
-    rw (q.1, q.2)
-    (misfits-weaker (inverse_fits c.args.system.now.system (group_copy c.args.system.now.system 0)) ((inverse_fits c.args.system.now.system (group_copy c.args.system.now.system 0)) && (fit_at c.args.system.now.system (inverse_of c.args.system.now.system (group_copy c.args.system.now.system 0)) c.args.system.now.system.ideal)) (λ no. ap (λ (t : Bool). t && (fit_at c.args.system.now.system (inverse_of c.args.system.now.system (group_copy c.args.system.now.system 0)) c.args.system.now.system.ideal)) (no))
-    c.in_err-inverse.field-0.0 (c.in_err-inverse.ensures.degree (group_copy c.args.system.now.system 0) (seen c.args.ring.now.coeffs _ _ (group_copy c.args.system.now.system 0) c.deref.ensures.value c.in_ok-a.ensures.value)))
+    rw (q.1, q.2) (misfits-weaker (inverse_fits s a) (inverse_fits s a && fit_at s inverse' s.ideal) (λ no. ap (λ (t : Bool). t && fit_at s inverse' s.ideal) (no)) c.in_err-inverse.field-0.0 (c.in_err-inverse.ensures.degree a (seen p _ _ a c.deref.ensures.value is_a)))
 
 pub returns-in_err-parts-clause-degree : goal.returns-in_err-parts-clause-degree
 unfolding parts_fit
 returns-in_err-parts-clause-degree c =
+    let s = c.args.system.now.system in
+    let p = c.args.ring.now.coeffs in
+    let a : List Poly = group_copy s 0 in
+    let is_a = c.in_ok-a.ensures.value in
+    let inverse' : List Poly = inverse_of s a in
+    let is_inverse = c.in_ok-inverse.ensures.value a (seen p _ _ a c.deref.ensures.value is_a) in
     let q = err_from_is_err_and c.from_residual-in_err-parts.result c.from_residual-in_err-parts.ensures.1 in
-    rw (q.1, q.2)
-    (misfits-weaker (fit_at c.args.system.now.system (inverse_of c.args.system.now.system (group_copy c.args.system.now.system 0)) c.args.system.now.system.ideal) ((inverse_fits c.args.system.now.system (group_copy c.args.system.now.system 0)) && (fit_at c.args.system.now.system (inverse_of c.args.system.now.system (group_copy c.args.system.now.system 0)) c.args.system.now.system.ideal)) (λ no. ap (λ (t : Bool). (inverse_fits c.args.system.now.system (group_copy c.args.system.now.system 0)) && t) (no) ∙ and_false (inverse_fits c.args.system.now.system (group_copy c.args.system.now.system 0)))
-    c.in_err-parts.field-0.0 (c.in_err-parts.ensures.degree (inverse_of c.args.system.now.system (group_copy c.args.system.now.system 0)) (seen c.args.ring.now.coeffs _ _ (inverse_of c.args.system.now.system (group_copy c.args.system.now.system 0)) c.deref-2.ensures.value (c.in_ok-inverse.ensures.value (group_copy c.args.system.now.system 0) (seen c.args.ring.now.coeffs _ _ (group_copy c.args.system.now.system 0) c.deref.ensures.value c.in_ok-a.ensures.value)))))
+    rw (q.1, q.2) (misfits-weaker (fit_at s inverse' s.ideal) (inverse_fits s a && fit_at s inverse' s.ideal) (λ no. ap (λ (t : Bool). inverse_fits s a && t) (no) ∙ and_false (inverse_fits s a)) c.in_err-parts.field-0.0 (c.in_err-parts.ensures.degree inverse' (seen p _ _ inverse' c.deref-2.ensures.value is_inverse)))

@@ -15,17 +15,28 @@ use Rattle.rinv_laws.proofs.parts.unit_is_a_point.Goals as goal
 
 pub returns-clause-value : goal.returns-clause-value
 unfolding parts
-returns-clause-value c = c.in_ok-parts.ensures.value (unit_point c.args.system.now.system) (seen c.args.ring.now.coeffs _ _ (unit_point c.args.system.now.system) c.deref.ensures.value c.in_ok-unit.ensures.value)
+returns-clause-value c =
+    let s = c.args.system.now.system in
+    let p = c.args.ring.now.coeffs in
+    let e : List Poly = unit_point s in
+    let is_unit = c.in_ok-unit.ensures.value in
+    c.in_ok-parts.ensures.value e (seen p _ _ e c.deref.ensures.value is_unit)
 
 pub returns-clause-fits : goal.returns-clause-fits
 unfolding parts_fit
 returns-clause-fits c =
-    c.in_ok-parts.ensures.fits (unit_point c.args.system.now.system) (seen c.args.ring.now.coeffs _ _ (unit_point c.args.system.now.system) c.deref.ensures.value c.in_ok-unit.ensures.value)
+    let s = c.args.system.now.system in
+    let p = c.args.ring.now.coeffs in
+    let e : List Poly = unit_point s in
+    let is_unit = c.in_ok-unit.ensures.value in
+    c.in_ok-parts.ensures.fits e (seen p _ _ e c.deref.ensures.value is_unit)
 
 pub returns-in_err-parts-clause-degree : goal.returns-in_err-parts-clause-degree
 unfolding parts_fit
 returns-in_err-parts-clause-degree c =
+    let s = c.args.system.now.system in
+    let p = c.args.ring.now.coeffs in
+    let e : List Poly = unit_point s in
+    let is_unit = c.in_ok-unit.ensures.value in
     let q = err_from_is_err_and c.from_residual-in_err-parts.result c.from_residual-in_err-parts.ensures.1 in
-    rw (q.1, q.2)
-    (misfits-weaker (fit_at c.args.system.now.system (unit_point c.args.system.now.system) c.args.system.now.system.ideal) (fit_at c.args.system.now.system (unit_point c.args.system.now.system) c.args.system.now.system.ideal) (λ no. no)
-    c.in_err-parts.field-0.0 (c.in_err-parts.ensures.degree (unit_point c.args.system.now.system) (seen c.args.ring.now.coeffs _ _ (unit_point c.args.system.now.system) c.deref.ensures.value c.in_ok-unit.ensures.value)))
+    rw (q.1, q.2) (misfits-weaker (fit_at s e s.ideal) (fit_at s e s.ideal) (λ no. no) c.in_err-parts.field-0.0 (c.in_err-parts.ensures.degree e (seen p _ _ e c.deref.ensures.value is_unit)))

@@ -15,17 +15,36 @@ use Rattle.rinv_laws.proofs.parts.unit_moves_nothing.Goals as goal
 
 pub returns-clause-value : goal.returns-clause-value
 unfolding parts
-returns-clause-value c = differences-of c.args.ring.now.coeffs c.args.system.now.system.p c.in_ok-parts.parts.items (moved c.args.system.now.system (unit_point c.args.system.now.system) (space_behind c.args.system.now.system 0)) (space_behind c.args.system.now.system 0) c.requires.field (c.in_ok-parts.ensures.value (moved c.args.system.now.system (unit_point c.args.system.now.system) (space_behind c.args.system.now.system 0)) (space_behind c.args.system.now.system 0) (seen c.args.ring.now.coeffs _ _ (moved c.args.system.now.system (unit_point c.args.system.now.system) (space_behind c.args.system.now.system 0)) c.deref-3.ensures.value (c.in_ok-at_unit.ensures.value (unit_point c.args.system.now.system) (space_behind c.args.system.now.system 0) (seen c.args.ring.now.coeffs _ _ (unit_point c.args.system.now.system) c.deref.ensures.value c.in_ok-unit.ensures.value) (seen c.args.ring.now.coeffs _ _ (space_behind c.args.system.now.system 0) c.deref-2.ensures.value c.in_ok-x.ensures.value))) (seen c.args.ring.now.coeffs _ _ (space_behind c.args.system.now.system 0) c.deref-4.ensures.value c.in_ok-x.ensures.value))
+returns-clause-value c =
+    let s = c.args.system.now.system in
+    let p = c.args.ring.now.coeffs in
+    let e : List Poly = unit_point s in
+    let is_unit = c.in_ok-unit.ensures.value in
+    let x : List Poly = space_behind s 0 in
+    let is_x = c.in_ok-x.ensures.value in
+    let at_unit' : List Poly = moved s e x in
+    let is_at_unit = c.in_ok-at_unit.ensures.value e x (seen p _ _ e c.deref.ensures.value is_unit) (seen p _ _ x c.deref-2.ensures.value is_x) in
+    differences-of p s.p c.in_ok-parts.parts.items at_unit' x c.requires.field (c.in_ok-parts.ensures.value at_unit' x (seen p _ _ at_unit' c.deref-3.ensures.value is_at_unit) (seen p _ _ x c.deref-4.ensures.value is_x))
 
 pub returns-clause-fits : goal.returns-clause-fits
 unfolding parts_fit
 returns-clause-fits c =
-    c.in_ok-at_unit.ensures.fits (unit_point c.args.system.now.system) (space_behind c.args.system.now.system 0) (seen c.args.ring.now.coeffs _ _ (unit_point c.args.system.now.system) c.deref.ensures.value c.in_ok-unit.ensures.value) (seen c.args.ring.now.coeffs _ _ (space_behind c.args.system.now.system 0) c.deref-2.ensures.value c.in_ok-x.ensures.value)
+    let s = c.args.system.now.system in
+    let p = c.args.ring.now.coeffs in
+    let e : List Poly = unit_point s in
+    let is_unit = c.in_ok-unit.ensures.value in
+    let x : List Poly = space_behind s 0 in
+    let is_x = c.in_ok-x.ensures.value in
+    c.in_ok-at_unit.ensures.fits e x (seen p _ _ e c.deref.ensures.value is_unit) (seen p _ _ x c.deref-2.ensures.value is_x)
 
 pub returns-in_err-at_unit-clause-degree : goal.returns-in_err-at_unit-clause-degree
 unfolding parts_fit
 returns-in_err-at_unit-clause-degree c =
+    let s = c.args.system.now.system in
+    let p = c.args.ring.now.coeffs in
+    let e : List Poly = unit_point s in
+    let is_unit = c.in_ok-unit.ensures.value in
+    let x : List Poly = space_behind s 0 in
+    let is_x = c.in_ok-x.ensures.value in
     let q = err_from_is_err_and c.from_residual-in_err-at_unit.result c.from_residual-in_err-at_unit.ensures.1 in
-    rw (q.1, q.2)
-    (misfits-weaker (moved_fits c.args.system.now.system (unit_point c.args.system.now.system) (space_behind c.args.system.now.system 0)) (moved_fits c.args.system.now.system (unit_point c.args.system.now.system) (space_behind c.args.system.now.system 0)) (λ no. no)
-    c.in_err-at_unit.field-0.0 (c.in_err-at_unit.ensures.degree (unit_point c.args.system.now.system) (space_behind c.args.system.now.system 0) (seen c.args.ring.now.coeffs _ _ (unit_point c.args.system.now.system) c.deref.ensures.value c.in_ok-unit.ensures.value) (seen c.args.ring.now.coeffs _ _ (space_behind c.args.system.now.system 0) c.deref-2.ensures.value c.in_ok-x.ensures.value)))
+    rw (q.1, q.2) (misfits-weaker (moved_fits s e x) (moved_fits s e x) (λ no. no) c.in_err-at_unit.field-0.0 (c.in_err-at_unit.ensures.degree e x (seen p _ _ e c.deref.ensures.value is_unit) (seen p _ _ x c.deref-2.ensures.value is_x)))
