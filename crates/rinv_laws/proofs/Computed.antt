@@ -1,8 +1,8 @@
 -- What a computation at a point answers, from the point that the code has to the one that the definition has.
 --   fit-is, values-of      polynomials at a point
---   over, point-is, point-joined    their forms
+--   over, below-over, point-is, ..   their forms
 --   seen, differences-of            lists as they are seen, and their differences
-use Rattle.std.proofs.Common.{◌≡◌, ℕ, ◌+◌, List, ◌++◌, map, length, refl, nat_lt}
+use Rattle.std.proofs.Common.{◌≡◌, ℕ, ◌+◌, true, List, ◌++◌, map, length, refl, nat_lt}
 use Rattle.std.specs.Prelude.{zip, Result, Ok, Err, IfOk}
 use Rattle.std.specs.List.{list_all}
 use Rattle.std.proofs.lemmas.List.{length-append}
@@ -32,6 +32,13 @@ point-joined p v k m a b x y = record {
   many = rw (length-append a b, x.many, y.many) refl;
   normal = All-append (IsNormal (residue_ops p) (λ c. nat_lt c p) v) a b x.normal y.normal;
 }
+
+pub below-over : (p q : ℕ) (ns ms : List ℕ) → p ≡ q → ns ≡ ms → list_all (λ x. nat_lt x q) ms ≡ true → list_all (λ x. nat_lt x p) ns ≡ true
+below-over p q ns ms a b h = rw (a, b) h
+
+pub point-normal : {V X : Type 0} (p v k : ℕ) (items : V → List Poly) (result : Result V X) → IfOk result (λ r. IsPoint p v k (items r)) → IfOk result (λ r. ArePolynomials p v (items r))
+point-normal p v k items (Ok r) h = h.normal
+point-normal p v k items (Err e) h = h
 
 -- the list as it is seen
 pub seen : (p : ℕ) (a b x : List Poly) → a ≡ b → AreSame (residue_ops p) b x → AreSame (residue_ops p) a x

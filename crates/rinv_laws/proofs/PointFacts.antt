@@ -3,11 +3,11 @@
 --   point-none, point-more         a coordinate more
 --   mapped-more, mapped-range      a value more
 --   differences-same               differences of points that are the same
---   zip-few, zip-at                a place of two lists
+--   below-at, zip-few, zip-at      a place of a list, and of two
 --   misfits-weaker, refused-misfits    what does not fit
-use Rattle.std.proofs.Common.{◌≡◌, ℕ, suc, ◌+◌, ◌<◌, Bool, false, inl, inr, List, [], ◌∷◌, ◌++◌, length, map, take, get_or, refl, sym, ap, ◌∙◌, subst, nat_lt, arith, add-one}
+use Rattle.std.proofs.Common.{◌≡◌, ℕ, zero, suc, true, IsTrue, ◌+◌, ◌<◌, Bool, false, inl, inr, List, [], ◌∷◌, ◌++◌, length, map, take, get_or, refl, sym, ap, ◌∙◌, subst, nat_lt, arith, add-one}
 use Rattle.std.specs.Prelude.{zip, min}
-use Rattle.std.specs.List.{AllZip, range_with_len}
+use Rattle.std.specs.List.{AllZip, list_all, range_with_len}
 use Rattle.std.proofs.lemmas.List.{length-append, map-append}
 use Rattle.std.proofs.lemmas.List.Elements.{All-nil, All-push, AllZip-push}
 use Rattle.std.proofs.lemmas.List.FromFn.{map-range_with_len_more}
@@ -18,6 +18,7 @@ use Rattle.rinv_algebra.specs.Polynomial.{Polynomial, poly_ops, difference, oppo
 use Rattle.rinv_algebra.specs.Normal.{IsNormal}
 use Rattle.rinv_algebra.proofs.PolynomialLaws.{poly_laws}
 use Rattle.rinv_algebra.proofs.RingFacts as facts
+use Rattle.rinv_algebra.proofs.Same.{both}
 use Rattle.rinv_groebner.specs.Division.{AreSame}
 use Rattle.rinv_ring.specs.Fault.{DegreesMeet}
 use Rattle.rinv_ring.specs.declared.fault.RingFault.{RingFault}
@@ -68,15 +69,21 @@ module _ {E : Type 0} (o : RingOps E) (l : RingLaws o) where
   pub differences-same : (a b x y : List (Polynomial E)) → AreSame o a x → AreSame o b y → AreSame o (map (λ c. difference o c.0 c.1) (zip a b)) (map (λ c. difference o c.0 c.1) (zip x y))
   differences-same [] b [] y s t = tt
   differences-same [] b (x ∷ xs) y s t = absurd s
-  differences-same (a ∷ as) b [] y s t = absurd s
-  differences-same (a ∷ as) [] (x ∷ xs) [] s t = tt
-  differences-same (a ∷ as) [] (x ∷ xs) (y ∷ ys) s t = absurd t
-  differences-same (a ∷ as) (b ∷ bs) (x ∷ xs) [] s t = absurd t
-  differences-same (a ∷ as) (b ∷ bs) (x ∷ xs) (y ∷ ys) s t =
+  differences-same (a ∷ us) b [] y s t = absurd s
+  differences-same (a ∷ us) [] (x ∷ xs) [] s t = tt
+  differences-same (a ∷ us) [] (x ∷ xs) (y ∷ ys) s t = absurd t
+  differences-same (a ∷ us) (b ∷ ws) (x ∷ xs) [] s t = absurd t
+  differences-same (a ∷ us) (b ∷ ws) (x ∷ xs) (y ∷ ys) s t =
       let p = poly_laws o l in
-      (p.add_same a x (opposite o b) (opposite o y) s.0 (p.neg_same b y t.0), differences-same as bs xs ys s.1 t.1)
+      (p.add_same a x (opposite o b) (opposite o y) s.0 (p.neg_same b y t.0), differences-same us ws xs ys s.1 t.1)
 
--- ---- places of two lists
+-- ---- places of lists
+
+pub below-at : (p : ℕ) (ns : List ℕ) (k : ℕ) → k < length ns → list_all (λ x. nat_lt x p) ns ≡ true → IsTrue (nat_lt (get_or ns k 0) p)
+below-at p [] k few h = absurd (omega (arith, few))
+below-at p (n ∷ ns) zero few h = (both (nat_lt n p) (list_all (λ x. nat_lt x p) ns) h).0
+below-at p (n ∷ ns) (suc k) few h = below-at p ns k (omega (arith, few)) (both (nat_lt n p) (list_all (λ x. nat_lt x p) ns) h).1
+
 
 pub zip-few : {X Y : Type 0} (xs : List X) (ys : List Y) (k : ℕ) → length xs ≡ length ys → k < length xs → k < length (zip xs ys)
 zip-few xs ys k many few = omega (arith, length-zip xs ys, many, few)
