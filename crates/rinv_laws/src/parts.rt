@@ -19,7 +19,7 @@ ghost use Rattle.rinv_laws.specs.Parts.{parts_fit};
 
 use crate::law::LawName;
 use crate::points::{
-    differences, group_copy, ideal_at, inverse_of, moved, space_behind, times, unit_point,
+    appended, differences, group_copy, ideal_at, inverse_of, moved, space_behind, times, unit_point,
 };
 use rinv_poly::{KPoly, PolyRing};
 use rinv_ring::{Gf, RingFault};
@@ -129,9 +129,9 @@ fn unit_is_neutral(
     let a = group_copy(alloc, system, ring, 0)?;
     let left = times(alloc, system, ring, &unit, &a)?;
     let right = times(alloc, system, ring, &a, &unit)?;
-    let mut parts = differences(alloc, ring, &left, &a)?;
-    let mut others = differences(alloc, ring, &right, &a)?;
-    parts.append(&mut others)?;
+    let first = differences(alloc, ring, &left, &a)?;
+    let second = differences(alloc, ring, &right, &a)?;
+    let parts = appended(first, second)?;
     Ok(parts)
 }
 
@@ -154,9 +154,9 @@ fn inverses_are_inverse(
     let inverse = inverse_of(alloc, system, ring, &a)?;
     let left = times(alloc, system, ring, &inverse, &a)?;
     let right = times(alloc, system, ring, &a, &inverse)?;
-    let mut parts = differences(alloc, ring, &left, &unit)?;
-    let mut others = differences(alloc, ring, &right, &unit)?;
-    parts.append(&mut others)?;
+    let first = differences(alloc, ring, &left, &unit)?;
+    let second = differences(alloc, ring, &right, &unit)?;
+    let parts = appended(first, second)?;
     Ok(parts)
 }
 

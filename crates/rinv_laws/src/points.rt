@@ -118,6 +118,16 @@ fn copies(
     Ok(copies)
 }
 
+// The polynomials of a list, and then those of another.
+pub(crate) fn appended(first: Vec<KPoly>, second: Vec<KPoly>) -> Result<Vec<KPoly>, NoMemory>
+    ensures { IfOk result (λ r. r.items ≡ first.items ++ second.items) }
+{
+    let mut whole = first;
+    let mut rest = second;
+    whole.append(&mut rest)?;
+    Ok(whole)
+}
+
 // The coordinates of a point, and then those of another.
 fn joined(
     alloc: Global,
@@ -129,9 +139,9 @@ fn joined(
     requires b { ArePolynomials ring.now.coeffs ring.now.vars b.now }
     ensures { IfOk result (λ r. r.items ≡ a.now ++ b.now) }
 {
-    let mut point = copies(alloc, ring, a)?;
-    let mut others = copies(alloc, ring, b)?;
-    point.append(&mut others)?;
+    let first = copies(alloc, ring, a)?;
+    let second = copies(alloc, ring, b)?;
+    let point = appended(first, second)?;
     Ok(point)
 }
 

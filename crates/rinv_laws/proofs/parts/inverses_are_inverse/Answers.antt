@@ -28,7 +28,7 @@ returns-clause-value c =
     let is_unit = c.in_ok-unit.ensures.value in
     let right' : List Poly = times s a inverse' in
     let is_right = c.in_ok-right.ensures.value a inverse' (seen p _ _ a c.deref-4.ensures.value is_a) (seen p _ _ inverse' c.deref-5.ensures.value is_inverse) in
-    rw ? (AllZip-append (IsSame (poly_ops (residue_ops p))) c.in_ok-parts.parts.items c.in_ok-others.others.items (differences s left' e) (differences s right' e) (differences-of p s.p c.in_ok-parts.parts.items left' e c.requires.field (c.in_ok-parts.ensures.value left' e (seen p _ _ left' c.deref-6.ensures.value is_left) (seen p _ _ e c.deref-7.ensures.value is_unit))) (differences-of p s.p c.in_ok-others.others.items right' e c.requires.field (c.in_ok-others.ensures.value right' e (seen p _ _ right' c.deref-8.ensures.value is_right) (seen p _ _ e c.deref-9.ensures.value is_unit))))
+    rw c.in_ok-parts.ensures (AllZip-append (IsSame (poly_ops (residue_ops p))) c.in_ok-first.first.items c.in_ok-second.second.items (differences s left' e) (differences s right' e) (differences-of p s.p c.in_ok-first.first.items left' e c.requires.field (c.in_ok-first.ensures.value left' e (seen p _ _ left' c.deref-6.ensures.value is_left) (seen p _ _ e c.deref-7.ensures.value is_unit))) (differences-of p s.p c.in_ok-second.second.items right' e c.requires.field (c.in_ok-second.ensures.value right' e (seen p _ _ right' c.deref-8.ensures.value is_right) (seen p _ _ e c.deref-9.ensures.value is_unit))))
 
 pub returns-clause-fits : goal.returns-clause-fits
 unfolding parts_fit

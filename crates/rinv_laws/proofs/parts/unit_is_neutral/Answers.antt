@@ -26,7 +26,7 @@ returns-clause-value c =
     let is_left = c.in_ok-left.ensures.value e a (seen p _ _ e c.deref.ensures.value is_unit) (seen p _ _ a c.deref-2.ensures.value is_a) in
     let right' : List Poly = times s a e in
     let is_right = c.in_ok-right.ensures.value a e (seen p _ _ a c.deref-3.ensures.value is_a) (seen p _ _ e c.deref-4.ensures.value is_unit) in
-    rw ? (AllZip-append (IsSame (poly_ops (residue_ops p))) c.in_ok-parts.parts.items c.in_ok-others.others.items (differences s left' a) (differences s right' a) (differences-of p s.p c.in_ok-parts.parts.items left' a c.requires.field (c.in_ok-parts.ensures.value left' a (seen p _ _ left' c.deref-5.ensures.value is_left) (seen p _ _ a c.deref-6.ensures.value is_a))) (differences-of p s.p c.in_ok-others.others.items right' a c.requires.field (c.in_ok-others.ensures.value right' a (seen p _ _ right' c.deref-7.ensures.value is_right) (seen p _ _ a c.deref-8.ensures.value is_a))))
+    rw c.in_ok-parts.ensures (AllZip-append (IsSame (poly_ops (residue_ops p))) c.in_ok-first.first.items c.in_ok-second.second.items (differences s left' a) (differences s right' a) (differences-of p s.p c.in_ok-first.first.items left' a c.requires.field (c.in_ok-first.ensures.value left' a (seen p _ _ left' c.deref-5.ensures.value is_left) (seen p _ _ a c.deref-6.ensures.value is_a))) (differences-of p s.p c.in_ok-second.second.items right' a c.requires.field (c.in_ok-second.ensures.value right' a (seen p _ _ right' c.deref-7.ensures.value is_right) (seen p _ _ a c.deref-8.ensures.value is_a))))
 
 pub returns-clause-fits : goal.returns-clause-fits
 unfolding parts_fit
