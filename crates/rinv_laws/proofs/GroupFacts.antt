@@ -1,42 +1,22 @@
 -- The basis of a group's ideal, from what Buchberger's algorithm and the making of the reduced basis answer.
---   nonzero-each                 a list without zero, element by element
 --   over-itself, over-ideal      bases of one ideal by other generators
 --   group_basis-of               what is known of the group's ideal
---   basis-stop, reducing-stop    why there is none
-use Rattle.std.proofs.Common.{◌≡◌, ℕ, Bool, true, false, ◌⊎◌, inl, List, [], ◌∷◌, refl, sym, ◌∙◌, nat_lt, All, IsTrue}
-use Rattle.std.specs.Prelude.{not}
-use Rattle.std.specs.List.{list_all}
-use Rattle.std.proofs.lemmas.List.Elements.{All-nil, All-cons}
+use Rattle.std.proofs.Common.{◌≡◌, ℕ, List, refl, sym, ◌∙◌, subst, nat_lt, All}
 use Rattle.rinv_algebra.specs.Residue.{residue_ops}
 use Rattle.rinv_algebra.specs.Order.{grevlex}
-use Rattle.rinv_algebra.specs.Polynomial.{is_zero}
 use Rattle.rinv_algebra.specs.Normal.{IsNormal}
 use Rattle.rinv_algebra.proofs.Grevlex.{grevlex_laws, grevlex_ties}
 use Rattle.rinv_algebra.proofs.ResidueField.{residue_field_laws}
 use Rattle.rinv_algebra.proofs.ResidueLaws.{residue_laws}
-use Rattle.rinv_algebra.proofs.Same.{both}
 use Rattle.rinv_groebner.specs.Orders.{OrdersMonomials}
-use Rattle.rinv_groebner.specs.Basis.{AreNonzero, IsGroebnerBasis}
+use Rattle.rinv_groebner.specs.Basis.{IsGroebnerBasis}
 use Rattle.rinv_groebner.specs.Journal.{Journal, IsComplete}
 use Rattle.rinv_groebner.specs.Reduced.{IsReducedGroebnerBasis, Ascend}
 use Rattle.rinv_groebner.proofs.ReducedLists.{basis-of}
 use Rattle.rinv_defs.specs.System.{System, Poly, group_count}
-use Rattle.rinv_div.specs.declared.budget.Budget.{Budget}
-use Rattle.rinv_buch.specs.declared.kinds.Stop.{Stop}
-use Rattle.rinv_buch.specs.declared.kinds.Stop.TheVariants.{Incomplete, NoMemory}
-use Rattle.rinv_buch.specs.Causes.{Halts, StopsSo}
-use Rattle.rinv_buch.specs.Kinds.{Found, Halted}
-use Rattle.rinv_laws.specs.Group.{IsGroupBasis, HaltsReducing, never}
-
-pub nonzero-each : (p : ℕ) (hs : List Poly) → AreNonzero (residue_ops p) hs → All (λ h. is_zero (residue_ops p) h ≡ false) hs
-nonzero-each p [] n = All-nil (λ h. is_zero (residue_ops p) h ≡ false)
-nonzero-each p (h ∷ hs) n =
-    let parts = both (not (is_zero (residue_ops p) h)) (list_all (λ g. not (is_zero (residue_ops p) g)) hs) n in
-    All-cons (λ h. is_zero (residue_ops p) h ≡ false) h hs (off (is_zero (residue_ops p) h) parts.0) (nonzero-each p hs parts.1)
-  where
-    off : (b : Bool) → not b ≡ true → b ≡ false
-    off true e = sym e
-    off false e = refl
+use Rattle.rinv_buch.specs.Kinds.{Found}
+use Rattle.rinv_laws.specs.Group.{IsGroupBasis}
+use Rattle.rinv_laws.proofs.Computed.{over}
 
 in_grevlex : (v : ℕ) → OrdersMonomials grevlex v
 in_grevlex v = record { laws = grevlex_laws; ties = λ a b la lb e. grevlex_ties a b (la ∙ sym lb) e }
@@ -58,16 +38,13 @@ pub group_basis-of : (s : System) (p v : ℕ) (fs : List Poly) (found : Found �
     → IsReducedGroebnerBasis (residue_ops p) grevlex v found.polys gs → Ascend (residue_ops p) grevlex gs → All (IsNormal (residue_ops p) (λ c. nat_lt c p) v) gs
     → IsGroupBasis s found gs
 group_basis-of s p v fs found gs a b c journal complete normal basis reduced ascending reduced_normal = record {
-  journal = rw (← a, ← c) journal;
-  complete = rw (← a) complete;
-  normal = rw (← a, ← b) normal;
-  reduced_basis = rw (← a, ← b, ← c) (over-ideal p v fs found.polys gs basis reduced);
-  ascending = rw (← a) ascending;
-  reduced_normal = rw (← a, ← b) reduced_normal;
+  journal = subst (λ (q : ℕ). Journal (residue_ops q) grevlex s.ideal found.journal found.polys) a (subst (λ (hs : List Poly). Journal (residue_ops p) grevlex hs found.journal found.polys) c journal);
+  complete = subst (λ (q : ℕ). IsComplete (residue_ops q) grevlex found.journal found.polys) a complete;
+  normal = over s.p p (group_count s) v found.polys found.polys (sym a) (sym b) refl normal;
+  reduced_basis =
+    subst (λ (q : ℕ). IsReducedGroebnerBasis (residue_ops q) grevlex (group_count s) s.ideal gs) a
+    (subst (λ (w : ℕ). IsReducedGroebnerBasis (residue_ops p) grevlex w s.ideal gs) b
+    (subst (λ (hs : List Poly). IsReducedGroebnerBasis (residue_ops p) grevlex v hs gs) c (over-ideal p v fs found.polys gs basis reduced)));
+  ascending = subst (λ (q : ℕ). Ascend (residue_ops q) grevlex gs) a ascending;
+  reduced_normal = over s.p p (group_count s) v gs gs (sym a) (sym b) refl reduced_normal;
 }
-
--- Buchberger's algorithm halts
-pub basis-stop : {R : Type 0} (s : System) (p : ℕ) (fs : List Poly) (before after : Budget) → p ≡ s.p → fs ≡ s.ideal → (e : Stop R ℕ)
-    → StopsSo (Halts (residue_ops p) grevlex never fs before after) e → StopsSo (λ h. Halts (residue_ops s.p) grevlex never s.ideal before after h ⊎ HaltsReducing s before after h) e
-basis-stop s p fs before after a c (Incomplete h) x = inl (rw (← a, ← c) x)
-basis-stop s p fs before after a c NoMemory x = tt
