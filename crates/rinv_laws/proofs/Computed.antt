@@ -2,7 +2,7 @@
 --   fit-is, values-of      polynomials at a point
 --   over, below-over, point-is, ..   their forms
 --   seen, differences-of            lists as they are seen, and their differences
-use Rattle.std.proofs.Common.{◌≡◌, ℕ, ◌+◌, true, List, ◌++◌, map, length, refl, nat_lt}
+use Rattle.std.proofs.Common.{◌≡◌, ℕ, ◌+◌, true, List, ◌++◌, map, refl, nat_lt}
 use Rattle.std.specs.Prelude.{zip, Result, Ok, Err, IfOk}
 use Rattle.std.specs.List.{list_all}
 use Rattle.std.proofs.lemmas.List.{length-append}

@@ -42,9 +42,9 @@ group_basis-of s p v fs found gs a b c journal complete normal basis reduced asc
   complete = subst (λ (q : ℕ). IsComplete (residue_ops q) grevlex found.journal found.polys) a complete;
   normal = over s.p p (group_count s) v found.polys found.polys (sym a) (sym b) refl normal;
   reduced_basis =
-    subst (λ (q : ℕ). IsReducedGroebnerBasis (residue_ops q) grevlex (group_count s) s.ideal gs) a
-    (subst (λ (w : ℕ). IsReducedGroebnerBasis (residue_ops p) grevlex w s.ideal gs) b
-    (subst (λ (hs : List Poly). IsReducedGroebnerBasis (residue_ops p) grevlex v hs gs) c (over-ideal p v fs found.polys gs basis reduced)));
+      subst (λ (q : ℕ). IsReducedGroebnerBasis (residue_ops q) grevlex (group_count s) s.ideal gs) a
+      (subst (λ (w : ℕ). IsReducedGroebnerBasis (residue_ops p) grevlex w s.ideal gs) b
+      (subst (λ (hs : List Poly). IsReducedGroebnerBasis (residue_ops p) grevlex v hs gs) c (over-ideal p v fs found.polys gs basis reduced)));
   ascending = subst (λ (q : ℕ). Ascend (residue_ops q) grevlex gs) a ascending;
   reduced_normal = over s.p p (group_count s) v gs gs (sym a) (sym b) refl reduced_normal;
 }

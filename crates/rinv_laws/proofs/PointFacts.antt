@@ -5,9 +5,9 @@
 --   differences-same               differences of points that are the same
 --   below-at, zip-few, zip-at      a place of a list, and of two
 --   misfits-weaker, refused-misfits    what does not fit
-use Rattle.std.proofs.Common.{◌≡◌, ℕ, zero, suc, true, IsTrue, ◌+◌, ◌<◌, Bool, false, inl, inr, List, [], ◌∷◌, ◌++◌, length, map, take, get_or, refl, sym, ap, ◌∙◌, subst, nat_lt, arith, add-one}
-use Rattle.std.specs.Prelude.{zip, min}
-use Rattle.std.specs.List.{AllZip, list_all, range_with_len}
+use Rattle.std.proofs.Common.{◌≡◌, ℕ, zero, suc, true, IsTrue, ◌+◌, ◌<◌, Bool, false, inl, inr, List, [], ◌∷◌, ◌++◌, length, map, take, get_or, refl, sym, ap, ◌∙◌, subst, nat_lt, arith}
+use Rattle.std.specs.Prelude.{zip}
+use Rattle.std.specs.List.{list_all, range_with_len}
 use Rattle.std.proofs.lemmas.List.{length-append, map-append}
 use Rattle.std.proofs.lemmas.List.Elements.{All-nil, All-push, AllZip-push}
 use Rattle.std.proofs.lemmas.List.FromFn.{map-range_with_len_more}
@@ -83,7 +83,6 @@ pub below-at : (p : ℕ) (ns : List ℕ) (k : ℕ) → k < length ns → list_al
 below-at p [] k few h = absurd (omega (arith, few))
 below-at p (n ∷ ns) zero few h = (both (nat_lt n p) (list_all (λ x. nat_lt x p) ns) h).0
 below-at p (n ∷ ns) (suc k) few h = below-at p ns k (omega (arith, few)) (both (nat_lt n p) (list_all (λ x. nat_lt x p) ns) h).1
-
 
 pub zip-few : {X Y : Type 0} (xs : List X) (ys : List Y) (k : ℕ) → length xs ≡ length ys → k < length xs → k < length (zip xs ys)
 zip-few xs ys k many few = omega (arith, length-zip xs ys, many, few)

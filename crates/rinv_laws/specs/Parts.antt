@@ -1,5 +1,5 @@
 -- The parts of a law as they are computed, and when their degrees are too great.
-use Rattle.std.specs.Prelude.{ℕ, List, ◌++◌, Bool, ◌&&◌}
+use Rattle.std.specs.Prelude.{List, ◌++◌, Bool, ◌&&◌}
 use Rattle.std.specs.List.{list_all}
 use Rattle.rinv_algebra.specs.Residue.{residue_ops}
 use Rattle.rinv_algebra.specs.Fits.{substitution_fits}

@@ -1,16 +1,11 @@
-use Rattle.std.proofs.Common.{◌≡◌, ◌∙◌, ◌&&◌, ◌++◌, Bool, true, false, List, refl, sym, ap}
+use Rattle.std.proofs.Common.{◌≡◌, ◌∙◌, ◌&&◌, Bool, true, List, refl, ap}
 use Rattle.std.proofs.lemmas.Result.{err_from_is_err_and}
-use Rattle.rinv_algebra.specs.Residue.{residue_ops}
-use Rattle.rinv_algebra.specs.Ring.{IsSame}
-use Rattle.rinv_algebra.specs.Polynomial.{poly_ops}
 use Rattle.rinv_algebra.proofs.Products.{and_false}
-use Rattle.rinv_groebner.specs.Division.{AreSame}
-use Rattle.rinv_sub.proofs.Images.{AllZip-append}
-use Rattle.rinv_defs.specs.System.{Poly, group_copy, space_behind, unit_point, at_point, times, inverse_of, moved, differences}
+use Rattle.rinv_defs.specs.System.{Poly, group_copy, times}
 use Rattle.rinv_defs.specs.Laws.{parts}
-use Rattle.rinv_laws.specs.Parts.{fit_at, times_fit, inverse_fits, moved_fits, parts_fit}
+use Rattle.rinv_laws.specs.Parts.{fit_at, times_fit, parts_fit}
 use Rattle.rinv_laws.proofs.PointFacts.{misfits-weaker}
-use Rattle.rinv_laws.proofs.Computed.{seen, differences-of}
+use Rattle.rinv_laws.proofs.Computed.{seen}
 use Rattle.rinv_laws.proofs.parts.products_are_points.Goals as goal
 
 pub returns-clause-value : goal.returns-clause-value

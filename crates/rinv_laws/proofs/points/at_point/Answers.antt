@@ -1,9 +1,8 @@
-use Rattle.std.proofs.Common.{◌≡◌, ◌∙◌, true, ℕ, List, map, length, arith, subst, sym, ap, refl, nat_lt}
+use Rattle.std.proofs.Common.{◌≡◌, true, ℕ, List, map, length, arith, subst, refl}
 use Rattle.std.specs.List.{list_all}
 use Rattle.std.proofs.lemmas.List.{take_all}
 use Rattle.std.proofs.lemmas.Result.{err_from_is_err_and}
 use Rattle.rinv_algebra.specs.Residue.{residue_ops}
-use Rattle.rinv_algebra.specs.Normal.{IsNormal}
 use Rattle.rinv_algebra.specs.Value.{substitute}
 use Rattle.rinv_algebra.specs.Fits.{substitution_fits}
 use Rattle.rinv_algebra.proofs.ResidueLaws.{residue_laws}
@@ -11,7 +10,7 @@ use Rattle.rinv_sub.proofs.Sums.{tests-more, tests-stuck}
 use Rattle.rinv_groebner.specs.Division.{AreSame}
 use Rattle.rinv_defs.specs.System.{Poly}
 use Rattle.rinv_laws.specs.Points.{IsPoint}
-use Rattle.rinv_laws.proofs.PointFacts.{point-none, point-more, mapped-more, misfits-weaker, refused-misfits}
+use Rattle.rinv_laws.proofs.PointFacts.{point-none, point-more, mapped-more, refused-misfits}
 use Rattle.rinv_laws.proofs.points.at_point.Goals as goal
 
 pub polynomials-init : goal.polynomials-init

@@ -21,7 +21,7 @@ numbers-preserved c =
     rw c.in_ok-push.ensures.items (record {
       point = point-more p c.args.ring.now.vars c.numbers.k c.numbers.point.items c.in_ok-coordinate.coordinate c.numbers.invariant.point c.in_ok-coordinate.ensures.element;
       value = mapped-more (residue_ops p) (residue_laws p) (constant (residue_ops p)) c.args.numbers.now c.numbers.k n c.numbers.point.items c.in_ok-coordinate.coordinate c.numbers-test.true
-      (get_or_default c.args.numbers.now c.numbers.k 0 n c.numbers-test.true) c.numbers.invariant.value c.in_ok-coordinate.ensures.value;
+          (get_or_default c.args.numbers.now c.numbers.k 0 n c.numbers-test.true) c.numbers.invariant.value c.in_ok-coordinate.ensures.value;
     })
 
 pub returns-clause-point : goal.returns-clause-point

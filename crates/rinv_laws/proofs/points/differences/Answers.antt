@@ -1,4 +1,4 @@
-use Rattle.std.proofs.Common.{◌≡◌, ◌∙◌, ◌<◌, ◌≤◌, ℕ, List, map, take, length, arith, subst, sym, ap, nat_lt, min}
+use Rattle.std.proofs.Common.{◌≤◌, List, map, length, arith, subst, nat_lt}
 use Rattle.std.specs.Prelude.{zip}
 use Rattle.std.proofs.lemmas.List.{take_all}
 use Rattle.std.proofs.lemmas.List.Elements.{All-nil, All-push}
@@ -26,7 +26,7 @@ coordinates-preserved c =
     rw c.in_ok-push.ensures.items (record {
       normal = All-push (IsNormal o (λ n. nat_lt n p) c.args.ring.now.vars) c.coordinates.list.items c.in-Ok.difference c.coordinates.invariant.normal c.in-Ok.ensures.element;
       value = mapped-more o (residue_laws p) (λ (f : Poly × Poly). difference o f.0 f.1) (zip a b) c.coordinates.k (x, y) c.coordinates.list.items c.in-Ok.difference
-      (zip-few a b c.coordinates.k c.requires.many c.coordinates-test.true) (zip-at a b c.coordinates.k x y c.requires.many c.coordinates-test.true c.index-a-k.is c.index-b-k.is) c.coordinates.invariant.value c.in-Ok.ensures.value;
+          (zip-few a b c.coordinates.k c.requires.many c.coordinates-test.true) (zip-at a b c.coordinates.k x y c.requires.many c.coordinates-test.true c.index-a-k.is c.index-b-k.is) c.coordinates.invariant.value c.in-Ok.ensures.value;
     })
 
 pub returns-clause-value : goal.returns-clause-value

@@ -1,15 +1,10 @@
-use Rattle.std.proofs.Common.{◌≡◌, ◌∙◌, ◌+◌, ◌*◌, ◌++◌, Bool, true, ℕ, List, length, arith, subst, sym, ap, ap₂, refl}
-use Rattle.std.specs.Prelude.{OnOk, IfErr, IfOk}
-use Rattle.rinv_algebra.specs.Residue.{residue_ops}
-use Rattle.rinv_algebra.specs.Ring.{IsSame}
-use Rattle.rinv_algebra.specs.Polynomial.{poly_ops}
+use Rattle.std.proofs.Common.{◌≡◌, ◌∙◌, Bool, true, length, subst, sym, ap, refl}
+use Rattle.std.specs.Prelude.{OnOk, IfErr}
 use Rattle.rinv_ring.specs.Fault.{DegreesMeet}
-use Rattle.rinv_sub.proofs.Images.{AllZip-append}
-use Rattle.rinv_defs.specs.System.{Poly}
 use Rattle.rinv_text.specs.Told.{Told}
-use Rattle.rinv_text.proofs.SystemParts.{parts-of, between}
-use Rattle.rinv_laws.specs.Points.{IsPoint, Misfits}
-use Rattle.rinv_laws.proofs.Computed.{over, point-is, point-joined, point-normal, fit-is, values-of}
+use Rattle.rinv_text.proofs.SystemParts.{parts-of}
+use Rattle.rinv_laws.specs.Points.{Misfits}
+use Rattle.rinv_laws.proofs.Computed.{over, point-is, point-normal, fit-is, values-of}
 use Rattle.rinv_laws.proofs.points.ideal_at.Goals as goal
 
 pub at_point-requires-clause-field : goal.at_point-requires-clause-field

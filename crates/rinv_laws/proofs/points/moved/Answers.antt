@@ -1,4 +1,4 @@
-use Rattle.std.proofs.Common.{◌≡◌, ◌∙◌, ◌+◌, ◌*◌, ◌++◌, Bool, true, ℕ, List, length, arith, subst, sym, ap, ap₂, refl}
+use Rattle.std.proofs.Common.{◌≡◌, ◌∙◌, ◌+◌, ◌++◌, Bool, true, ℕ, List, length, subst, sym, ap, ap₂}
 use Rattle.std.specs.Prelude.{OnOk, IfErr, IfOk}
 use Rattle.rinv_algebra.specs.Residue.{residue_ops}
 use Rattle.rinv_algebra.specs.Ring.{IsSame}
@@ -7,7 +7,7 @@ use Rattle.rinv_ring.specs.Fault.{DegreesMeet}
 use Rattle.rinv_sub.proofs.Images.{AllZip-append}
 use Rattle.rinv_defs.specs.System.{Poly}
 use Rattle.rinv_text.specs.Told.{Told}
-use Rattle.rinv_text.proofs.SystemParts.{parts-of, between}
+use Rattle.rinv_text.proofs.SystemParts.{parts-of}
 use Rattle.rinv_laws.specs.Points.{IsPoint, Misfits}
 use Rattle.rinv_laws.proofs.Computed.{over, point-is, point-joined, fit-is, values-of}
 use Rattle.rinv_laws.proofs.points.moved.Goals as goal

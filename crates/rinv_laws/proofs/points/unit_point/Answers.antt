@@ -1,4 +1,4 @@
-use Rattle.std.proofs.Common.{◌≡◌, ◌∙◌, ℕ, List, length, subst, ap}
+use Rattle.std.proofs.Common.{◌∙◌, ℕ, List, length, subst, ap}
 use Rattle.std.specs.Prelude.{IfOk}
 use Rattle.rinv_text.specs.Told.{Told}
 use Rattle.rinv_text.proofs.SystemParts.{parts-of}
