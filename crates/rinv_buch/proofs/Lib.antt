@@ -18,3 +18,4 @@ pub mod Inserted
 pub mod TakenOut
 pub mod Makings
 pub mod MadeSoFar
+pub mod OwnIdeal

@@ -5,7 +5,7 @@ ghost use Rattle.rinv_algebra.specs.Normal.{IsNormal};
 ghost use Rattle.rinv_algebra.specs.Residue.{residue_ops};
 ghost use Rattle.rinv_buch.specs.Spent.{IsKept};
 
-use super::{Basis, EntryKind, Stop, Why, basis, interreduce};
+use super::{Basis, Stop, Why, basis, interreduce};
 use rinv_div::Budget;
 use rinv_mono::{Grevlex, Mono};
 use rinv_poly::{KPoly, PolyRing};
@@ -136,22 +136,34 @@ fn end_for(why: &Why) -> End {
     }
 }
 
+// The reduced basis of two polynomials, where the pairs and steps are enough.
+fn reduced_basis(
+    alloc: Global,
+    ring: &PolyRing<Gf>,
+    first: &[(u32, u32, u32)],
+    second: &[(u32, u32, u32)],
+) -> Result<Vec<KPoly>, RingFault>
+    requires field { ring.now.coeffs ≡ 101 }
+    requires vars { ring.now.vars ≡ 2 }
+{
+    let mut given = Vec::new(alloc);
+    given.push(polynomial(alloc, ring, first)?)?;
+    given.push(polynomial(alloc, ring, second)?)?;
+    let mut spent = budget(10, 10);
+    match basis(ring, alloc, &given, &Grevlex, &mut spent) {
+        Ok(found) => interreduce(ring, alloc, &found, &Grevlex),
+        Err(_) => Err(RingFault::NoMemory),
+    }
+}
+
 #[test]
-fn finds_a_basis_and_reduces_it(rt: HostRuntime) -> Result<(), Fail> {
-    let alloc = rt.alloc();
+fn reduces_a_basis(rt: HostRuntime) -> Result<(), Fail> {
     let ring = PolyRing::new(Gf::new(101)?, 2);
     let first = [(1, 2, 0), (100, 0, 0)];
     let second = [(1, 1, 1), (100, 0, 0)];
-    let mut spent = budget(10, 10);
-    let Ok(found) = run(alloc, &ring, &first, &second, &mut spent) else {
-        return Err(Fail::new("no basis"));
+    let Ok(reduced) = reduced_basis(rt.alloc(), &ring, &first, &second) else {
+        return Err("no basis".into());
     };
-    assert_eq!(rt; spent.pairs_spent as usize, found.journal.len());
-    assert_eq!(rt;
-        found.journal[0].kind,
-        EntryKind::Reduced { added: Some(2) }
-    );
-    let reduced = interreduce(&ring, alloc, &found, &Grevlex)?;
     assert_eq!(rt; reduced.len(), 2);
     assert!(rt;
         is_list(&ring, &reduced[0], &[(1, 1, 0), (100, 0, 1)]),

@@ -48,13 +48,13 @@ module _ {E : Type 0} (o : RingOps E) (l : RingLaws o) where
     identity d =
         let laws = poly_laws o l in
         laws.same_trans f (combination o (quotients (length hs) steps) hs ++ rest) (combination o qs hs ++ rest)
-          (division-identity o l cmp hs f rest steps d.is_division.by_steps)
-          (laws.add_same (combination o (quotients (length hs) steps) hs) (combination o qs hs) rest rest
-            (laws.same_sym (combination o qs hs) (combination o (quotients (length hs) steps) hs) (combination-same qs (quotients (length hs) steps) hs d.quotients))
-            (laws.same_refl rest))
+        (division-identity o l cmp hs f rest steps d.is_division.by_steps)
+        (laws.add_same (combination o (quotients (length hs) steps) hs) (combination o qs hs) rest rest
+        (laws.same_sym (combination o qs hs) (combination o (quotients (length hs) steps) hs) (combination-same qs (quotients (length hs) steps) hs d.quotients))
+        (laws.same_refl rest))
 
     pub bounded : (v : ℕ) → OrdersMonomials cmp v → AreInVariables v hs → IsTrue (is_in_variables v f) → Divides o cmp hs f qs rest steps → (k : ℕ) → k < length hs → (m : List ℕ)
         → IsTrue (has_monomial o (product o (get_or qs k []) (get_or hs k [])) m) → IsTrue (is_ge (cmp (leading_monomial o cmp f) m))
     bounded v order in_v f_in d k b m h =
         division-bounded o l cmp hs v order (all_first o l v hs in_v) f (in_variables-of o l v f f_in) rest steps d.is_division.by_steps k m
-          (product-has (get_or qs k []) (quotient_at steps k) (get_or hs k []) m (quotient-same (length hs) qs steps k d.quotients b) h)
+        (product-has (get_or qs k []) (quotient_at steps k) (get_or hs k []) m (quotient-same (length hs) qs steps k d.quotients b) h)

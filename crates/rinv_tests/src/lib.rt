@@ -4,6 +4,8 @@
 #[cfg(test)]
 mod checks;
 #[cfg(test)]
+mod divisions;
+#[cfg(test)]
 mod polynomials;
 #[cfg(test)]
 mod readings;
