@@ -88,8 +88,8 @@ module _ {E : Type 0} (o : RingOps E) (l : RingLaws o) where
       let few : k < length cs = omega (arith, low, many) in
       let fronts : length (take k qs) ≡ length (take k cs) = length-take-le k qs (omega (arith, low)) ∙ sym (length-take-le k cs (omega (arith, few))) in
       let more : combination o (take (k + 1) qs) (take (k + 1) cs) ≡ combination o (take k qs) (take k cs) ++ product o q c =
-          ap₂ (combination o) (take_more qs k q low ∙ ap (λ (x : Polynomial E). take k qs ++ x ∷ []) (sym at_q)) (take_more cs k [] few ∙ ap (λ (x : Polynomial E). take k cs ++ x ∷ []) (sym at_c))
-          ∙ combination-push o l (take k qs) (take k cs) q c fronts in
+      ap₂ (combination o) (take_more qs k q low ∙ ap (λ (x : Polynomial E). take k qs ++ x ∷ []) (sym at_q)) (take_more cs k [] few ∙ ap (λ (x : Polynomial E). take k cs ++ x ∷ []) (sym at_c))
+      ∙ combination-push o l (take k qs) (take k cs) q c fronts in
       subst (IsSame (poly_ops o) (sum_of (products ++ r ∷ []))) (sym more)
       (subst (λ (x : Polynomial E). IsSame (poly_ops o) x (combination o (take k qs) (take k cs) ++ product o q c)) (sym (sum_of-push products r))
       (p.add_same (sum_of products) (combination o (take k qs) (take k cs)) r (product o q c) so_far here))

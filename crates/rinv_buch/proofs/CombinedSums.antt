@@ -177,10 +177,10 @@ module _ {E : Type 0} (o : RingOps E) (l : RingLaws o) where
           ∙ total-agree (poly_ring o l) _ _ (classes given) (λ m inside. class_sound (poly_ops o) (poly_laws o l) _ _ (c.each m (omega (arith, inside, length-map given (class (poly_ops o))))) ∙ class-combined c.quotients m)
           ∙ total-pair (poly_ring o l) first second (λ m. poly (cofactor lists i m)) (λ m. poly (cofactor lists j m)) (λ m. poly (combination o c.quotients (column lists m))) (classes given)
           ∙ ap₂ (λ x y. (poly_ring o l).add x ((poly_ring o l).neg y))
-            (ap₂ (λ x y. (poly_ring o l).add ((poly_ring o l).mul first x) ((poly_ring o l).neg ((poly_ring o l).mul second y))) (own-sum i low) (own-sum j high) ∙ sym class-s)
-            (columns-sum c.quotients lists ∙ sym (class_sound (poly_ops o) (poly_laws o l) _ _ (combination-right c.quotients list (sums lists) s)))
+          (ap₂ (λ x y. (poly_ring o l).add ((poly_ring o l).mul first x) ((poly_ring o l).neg ((poly_ring o l).mul second y))) (own-sum i low) (own-sum j high) ∙ sym class-s)
+          (columns-sum c.quotients lists ∙ sym (class_sound (poly_ops o) (poly_laws o l) _ _ (combination-right c.quotients list (sums lists) s)))
           ∙ sym (taken_away (poly_ring o l) (poly (s_at o cmp list i j)) (poly (combination o c.quotients list)) (poly rest)
-            (class_sound (poly_ops o) (poly_laws o l) _ _ (identity o l cmp list c.quotients (s_at o cmp list i j) rest c.steps c.divides) ∙ class-add (poly_ops o) (poly_laws o l) _ _))))
+          (class_sound (poly_ops o) (poly_laws o l) _ _ (identity o l cmp list c.quotients (s_at o cmp list i j) rest c.steps c.divides) ∙ class-add (poly_ops o) (poly_laws o l) _ _))))
 
     places-at : nonzeros o given ≡ map (λ k. get_or given k []) (nonzero_places o given (length given))
     places-at = ap (filter (λ f. not (is_zero o f))) (fill_by_all (λ k. get_or given k []) given (length given) [] refl (λ k low. refl)) ∙ filter-map (λ f. not (is_zero o f)) (λ k. get_or given k []) (range_with_len 0 (length given))

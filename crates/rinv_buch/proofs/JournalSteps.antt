@@ -1,15 +1,16 @@
 -- Cofactors along a journal, entry by entry.
+--   entry-at             an entry, as it is stored
 --   Continues            the entries that are left take a list to the whole
 --   journal-begins       so do all of them, from the polynomials given
 --   IsCombined           the cofactors after the first k entries
 --   combined-begin, combined-stay, combined-add, combined-end    the beginning, an entry, and the end
 --   combining-meets      degrees that an entry meets
-use Rattle.std.proofs.Common.{◌≡◌, ℕ, ◌+◌, ◌<◌, ◌≤◌, Bool, true, false, List, [], ◌∷◌, ◌++◌, length, length-append, append-nil, append_assoc, get_or, take, drop, refl, sym, ◌∙◌, ap, ap₂, subst, subst₂, arith, IsTrue, true≢false}
+use Rattle.std.proofs.Common.{◌≡◌, ℕ, ◌+◌, ◌<◌, ◌≤◌, Bool, true, false, List, [], ◌∷◌, ◌++◌, length, length-append, append-nil, append_assoc, get_or, take, drop, All, refl, sym, ◌∙◌, ap, ap₂, subst, subst₂, arith, IsTrue, true≢false}
 use Rattle.std.specs.Prelude.{IsFalse, Some, None}
 use Rattle.std.specs.List.{AllZip}
 use Rattle.std.specs.declared.cmp.Ordering.{Ordering}
-use Rattle.std.proofs.lemmas.List.{take_more, take_all, drop_all, drop_more, take-append-drop, take-append-le, length-take-le}
-use Rattle.std.proofs.lemmas.List.Elements.{length_all_zip}
+use Rattle.std.proofs.lemmas.List.{get_or-map, length-map, take_more, take_all, drop_all, drop_more, take-append-drop, take-append-le, length-take-le}
+use Rattle.std.proofs.lemmas.List.Elements.{length_all_zip, All-from_get_or}
 use Rattle.rinv_algebra.specs.Ring.{RingOps, RingLaws, FieldLaws, IsSame}
 use Rattle.rinv_algebra.specs.Polynomial.{Polynomial, poly_ops, is_zero}
 use Rattle.rinv_algebra.proofs.PolynomialLaws.{poly_laws}
@@ -26,6 +27,8 @@ use Rattle.rinv_ring.specs.Operation.{RingOp}
 use Rattle.rinv_ring.specs.Fault.{DegreesMeet}
 use Rattle.rinv_ring.specs.declared.fault.RingFault.{RingFault}
 use Rattle.rinv_poly.proofs.Meets.{meet-weaker}
+use Rattle.rinv_buch.specs.declared.kinds.Entry.{Entry as StoredEntry}
+use Rattle.rinv_buch.specs.Kinds.{entry_of, journal_of}
 use Rattle.rinv_buch.specs.Combining.{AreCofactors, Combines, CombiningMeets, RestMeets, adds, units}
 use Rattle.rinv_buch.specs.Runs.{s_at}
 use Rattle.rinv_buch.proofs.CombinedSums.{units-number}
@@ -35,6 +38,17 @@ steps-left : {E : Type 0} (o : RingOps E) (l : RingLaws o) (cmp : List ℕ → L
 steps-left o l cmp hs f steps r rest same (Steps.start w e) = Steps.start rest ((poly_laws o l).same_trans rest w f same e)
 steps-left o l cmp hs f steps r rest same (Steps.next before mid t w p q) =
     Steps.next before mid t rest p (record { cancelled = q.cancelled; next = q.next; monomial = q.monomial; coefficient = q.coefficient; taken = (poly_laws o l).same_trans rest w _ same q.taken })
+
+-- the entries of a journal, as they are stored
+module _ (items seen : List StoredEntry) (journal : List Entry) (is : seen ≡ items) (stored : journal_of items ≡ journal) where
+  abbrev all : journal_of seen ≡ journal
+  all = ap journal_of is ∙ stored
+
+  pub entries-number : length seen ≡ length journal
+  entries-number = sym (length-map seen entry_of) ∙ ap length all
+
+  pub entry-at : (k : ℕ) (d : StoredEntry) → k < length seen → entry_of (get_or seen k d) ≡ get_or journal k (entry_of (get_or seen k d))
+  entry-at k d inside = sym (get_or-map entry_of seen k d (entry_of (get_or seen k d)) inside) ∙ ap (λ (js : List Entry). get_or js k (entry_of (get_or seen k d))) all
 
 module _ {E : Type 0} (o : RingOps E) (cmp : List ℕ → List ℕ → Ordering) where
   -- the entries that are left take the list to the whole
@@ -74,6 +88,10 @@ module _ {E : Type 0} (o : RingOps E) (cmp : List ℕ → List ℕ → Ordering)
       let (more, is) = continues-front (before ++ e ∷ []) made left whole c in
       let (first, own) = made-front before list made e.first e.second e.steps e.kind entry.makes in
       (first ++ more, is ∙ ap (λ (xs : List (Polynomial E)). xs ++ more) own ∙ append_assoc list first more)
+
+  -- no element is zero
+  pub elements-nonzero : (l : RingLaws o) (field : FieldLaws o) (v : ℕ) → OrdersMonomials cmp v → (given : List (Polynomial E)) → AllFirst o l v given → {journal : List Entry} {list : List (Polynomial E)} → Journal o cmp given journal list → All (λ h. is_zero o h ≡ false) list
+  elements-nonzero l field v order given first {list = list} j = All-from_get_or (λ h. is_zero o h ≡ false) list [] (journal-facts o l field cmp v order given first j).nonzero
 
   module _ (given : List (Polynomial E)) where
     -- a journal goes on from the polynomials given

@@ -1,7 +1,3 @@
-use Rattle.rinv_buch.proofs.Cofactors.{cofactor-at, units-more}
-use Rattle.rinv_buch.proofs.PairMultipliers.{multiplier-value}
-use Rattle.rinv_buch.proofs.JournalSteps.{combined-begin}
-use Rattle.rinv_buch.proofs.CombinedSums.{combines-sums}
 use Rattle.std.proofs.lemmas.List.{take_all}
 use Rattle.rinv_div.proofs.DividedBy.{divisors-nil, divisors-next}
 use Rattle.rinv_buch.proofs.combining.divisors_of.Goals as goal
