@@ -1,3 +1,4 @@
 pub mod LawNames
 pub mod Parts
 pub mod Group
+pub mod Faults
