@@ -18,4 +18,7 @@ pub mod Inserted
 pub mod TakenOut
 pub mod Makings
 pub mod MadeSoFar
-pub mod OwnIdeal
+pub mod CombinedSums
+pub mod JournalSteps
+pub mod Cofactors
+pub mod PairMultipliers

@@ -43,6 +43,11 @@ module _ {E : Type 0} (o : RingOps E) (cmp : List ℕ → List ℕ → Ordering)
   not-coprime hs ms leads i j a b low high is_a is_b off are =
       true≢false (sym are ∙ ap₂ coprime (sym (lead-is hs ms leads i a (omega (arith, low, high)) is_a)) (sym (lead-is hs ms leads j b high is_b)) ∙ off)
 
+  -- steps depend on the coefficients of the dividend alone
+  pub steps-same : (l : RingLaws o) (hs : List (Polynomial E)) (f g : Polynomial E) → IsSame (poly_ops o) f g → (steps : List (Step E)) (left : Polynomial E) → Steps o cmp hs f steps left → Steps o cmp hs g steps left
+  steps-same l hs f g same steps left (Steps.start w e) = Steps.start w (same-then o l w f g e same)
+  steps-same l hs f g same steps left (Steps.next before mid t w p q) = Steps.next before mid t w (steps-same l hs f g same before mid p) q
+
   module _ (hs : List (Polynomial E)) (i j : ℕ) (off : AreCoprime o cmp hs i j → ⊥) where
     -- a fault before the division
     pub stops-idle : {R : Type 0} → (high : RingOp → E → E → ℕ → ℕ → Type 0) (b : Budget) (fault : RingFault) (stop : DivStop R E) → StopsBy (λ _. ⊥) (λ x y _. fault ≡ DegreeFault x y) stop → StopsBy (λ _. ⊥) (λ _ _ f. IsTrue (is_zero o f)) stop → DegreesMeet (SPolynomialMeets o cmp high (get_or hs i []) (get_or hs j [])) fault → Spends 0 b b
@@ -52,23 +57,18 @@ module _ {E : Type 0} (o : RingOps E) (cmp : List ℕ → List ℕ → Ordering)
     stops-idle high b fault NoMemory is idle meets none = tt
 
     module _ (l : RingLaws o) (s : Polynomial E) (same : IsSame (poly_ops o) s (s_at o cmp hs i j)) where
-      -- steps depend on the coefficients of the dividend alone
-      steps-same : (steps : List (Step E)) (left : Polynomial E) → Steps o cmp hs s steps left → Steps o cmp hs (s_at o cmp hs i j) steps left
-      steps-same steps left (Steps.start w e) = Steps.start w (same-then o l w s (s_at o cmp hs i j) e same)
-      steps-same steps left (Steps.next before mid t w p q) = Steps.next before mid t w (steps-same before mid p) q
-
       -- the division leaves the rest of the pair
       pub leaves-rest : (own spent : Budget) → own.steps_spent ≡ 0 → (qs : List (Polynomial E)) (rest : Polynomial E) → DividesBy o cmp hs s own spent qs rest → LeavesRest o cmp hs i j spent.steps_spent rest
       leaves-rest own spent fresh qs rest d = record {
         not_coprime = off;
         steps = d.steps;
-        division = record { by_steps = steps-same d.steps rest d.divides.is_division.by_steps; irreducible = d.divides.is_division.irreducible };
+        division = record { by_steps = steps-same l hs s (s_at o cmp hs i j) same d.steps rest d.divides.is_division.by_steps; irreducible = d.divides.is_division.irreducible };
         counted = own-count (length d.steps) own spent fresh d.spent;
       }
 
       module _ (before own spent after : Budget) (h : IsOwn before own spent after) where
         so-far : (w : Polynomial E) → Leaves o cmp hs s own spent w → Leaves o cmp hs (s_at o cmp hs i j) before after w
-        so-far w f = record { steps = f.steps; by_steps = steps-same f.steps w f.by_steps; spent = run-spends before own spent after h (length f.steps) f.spent }
+        so-far w f = record { steps = f.steps; by_steps = steps-same l hs s (s_at o cmp hs i j) same f.steps w f.by_steps; spent = run-spends before own spent after h (length f.steps) f.spent }
 
         -- a stop of the division is one of the run
         pub stops-dividing : {R : Type 0} → (high : RingOp → E → E → ℕ → ℕ → Type 0) (stop : DivStop R E) → StopsBy (RunsOut o cmp hs s own spent) (MeetsDegree o cmp hs s high own spent) stop

@@ -5,3 +5,4 @@ pub mod Causes
 pub mod Halting
 pub mod Runs
 pub mod Reducing
+pub mod Combining

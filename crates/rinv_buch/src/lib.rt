@@ -1,7 +1,8 @@
-//! Gröbner bases: Buchberger's algorithm with a journal and a budget, and the reduced basis.
+//! Gröbner bases: Buchberger's algorithm with a journal and a budget, the cofactors of its elements, and the reduced basis.
 #![tactic(auto)]
 
 mod buchberger;
+mod combining;
 mod elements;
 mod halting;
 pub mod kinds;
@@ -12,6 +13,7 @@ mod settling;
 mod spending;
 
 pub use buchberger::basis;
+pub use combining::combinations;
 pub use kinds::{Basis, Entry, EntryKind, Halt, Stop, Why};
 pub use reducing::interreduce;
 

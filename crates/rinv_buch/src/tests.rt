@@ -1,15 +1,15 @@
 //! Small tables over GF(101), in the variables x > y.
 
-ghost use Rattle.std.specs.Prelude.{◌≡◌, length, IfOk, IfSome, nat_lt};
+ghost use Rattle.std.specs.Prelude.{◌≡◌, length, All, IfOk, IfSome, nat_lt};
 ghost use Rattle.rinv_algebra.specs.Normal.{IsNormal};
 ghost use Rattle.rinv_algebra.specs.Residue.{residue_ops};
 ghost use Rattle.rinv_buch.specs.Spent.{IsKept};
 
-use super::{Basis, Stop, Why, basis, interreduce};
+use super::{Basis, EntryKind, Stop, Why, basis, combinations, interreduce};
 use rinv_div::Budget;
 use rinv_mono::{Grevlex, Mono};
 use rinv_poly::{KPoly, PolyRing};
-use rinv_ring::{Gf, NoMemory, RingFault};
+use rinv_ring::{Gf, NoMemory, Ring, RingFault};
 use std::alloc::Global;
 use std::test::Fail;
 
@@ -65,14 +65,29 @@ fn run(
     requires vars { ring.now.vars ≡ 2 }
     requires within { IsKept budget.old }
 {
+    match two(alloc, ring, first, second) {
+        Ok(given) => basis(ring, alloc, &given, &Grevlex, budget),
+        Err(_) => Err(Stop::NoMemory),
+    }
+}
+
+// Two polynomials.
+fn two(
+    alloc: Global,
+    ring: &PolyRing<Gf>,
+    first: &[(u32, u32, u32)],
+    second: &[(u32, u32, u32)],
+) -> Result<Vec<KPoly>, RingFault>
+    requires field { ring.now.coeffs ≡ 101 }
+    requires vars { ring.now.vars ≡ 2 }
+    ensures { IfOk result (λ fs. All (IsNormal (residue_ops 101) (λ c. nat_lt c 101) 2) fs.items) }
+{
     let mut given = Vec::new(alloc);
     for list in [first, second] {
-        match polynomial(alloc, ring, list) {
-            Ok(f) => given.push(f)?,
-            Err(_) => return Err(Stop::NoMemory),
-        }
+        let f = polynomial(alloc, ring, list)?;
+        given.push(f)?;
     }
-    basis(ring, alloc, &given, &Grevlex, budget)
+    Ok(given)
 }
 
 // A budget of so many pairs and steps.
@@ -136,34 +151,22 @@ fn end_for(why: &Why) -> End {
     }
 }
 
-// The reduced basis of two polynomials, where the pairs and steps are enough.
-fn reduced_basis(
-    alloc: Global,
-    ring: &PolyRing<Gf>,
-    first: &[(u32, u32, u32)],
-    second: &[(u32, u32, u32)],
-) -> Result<Vec<KPoly>, RingFault>
-    requires field { ring.now.coeffs ≡ 101 }
-    requires vars { ring.now.vars ≡ 2 }
-{
-    let mut given = Vec::new(alloc);
-    given.push(polynomial(alloc, ring, first)?)?;
-    given.push(polynomial(alloc, ring, second)?)?;
-    let mut spent = budget(10, 10);
-    match basis(ring, alloc, &given, &Grevlex, &mut spent) {
-        Ok(found) => interreduce(ring, alloc, &found, &Grevlex),
-        Err(_) => Err(RingFault::NoMemory),
-    }
-}
-
 #[test]
-fn reduces_a_basis(rt: HostRuntime) -> Result<(), Fail> {
+fn finds_a_basis_and_reduces_it(rt: HostRuntime) -> Result<(), Fail> {
+    let alloc = rt.alloc();
     let ring = PolyRing::new(Gf::new(101)?, 2);
     let first = [(1, 2, 0), (100, 0, 0)];
     let second = [(1, 1, 1), (100, 0, 0)];
-    let Ok(reduced) = reduced_basis(rt.alloc(), &ring, &first, &second) else {
-        return Err("no basis".into());
+    let mut spent = budget(10, 10);
+    let Ok(found) = run(alloc, &ring, &first, &second, &mut spent) else {
+        return Err(Fail::new("no basis"));
     };
+    assert_eq!(rt; spent.pairs_spent as usize, found.journal.len());
+    assert_eq!(rt;
+        found.journal[0].kind,
+        EntryKind::Reduced { added: Some(2) }
+    );
+    let reduced = interreduce(&ring, alloc, &found, &Grevlex)?;
     assert_eq!(rt; reduced.len(), 2);
     assert!(rt;
         is_list(&ring, &reduced[0], &[(1, 1, 0), (100, 0, 1)]),
@@ -195,6 +198,61 @@ fn halts_where_the_budget_or_the_limit_ends(rt: HostRuntime) -> Result<(), Fail>
     assert_eq!(rt;
         end_of(alloc, &ring, &first, &second, None),
         (End::Degree(6000, 6000), 0)
+    );
+    Ok(())
+}
+
+// Whether the list has the cofactors of the polynomial over those given.
+fn multiplies_out(
+    alloc: Global,
+    ring: &PolyRing<Gf>,
+    list: &[KPoly],
+    given: &[KPoly],
+    f: &KPoly,
+) -> Result<bool, RingFault>
+    requires list { All (IsNormal (residue_ops ring.now.coeffs) (λ c. nat_lt c ring.now.coeffs) ring.now.vars) list.now }
+    requires given { All (IsNormal (residue_ops ring.now.coeffs) (λ c. nat_lt c ring.now.coeffs) ring.now.vars) given.now }
+    requires polynomial { IsNormal (residue_ops ring.now.coeffs) (λ c. nat_lt c ring.now.coeffs) ring.now.vars f.now }
+    requires many { length list.now ≡ length given.now }
+{
+    let mut products = Vec::new(alloc);
+    'products: for k in 0..list.len() {
+        let product = ring.mul(alloc, &list[k], &given[k])?;
+        products.push(product)?;
+    }
+    let sum = ring.sum(alloc, products)?;
+    ring.same(alloc, &sum, f)
+}
+
+// Whether the cofactors of the elements of a basis multiply out to them.
+fn all_multiply_out(alloc: Global, ring: &PolyRing<Gf>, given: &[KPoly]) -> Result<bool, RingFault>
+    requires field { ring.now.coeffs ≡ 101 }
+    requires vars { ring.now.vars ≡ 2 }
+    requires given { All (IsNormal (residue_ops 101) (λ c. nat_lt c 101) 2) given.now }
+{
+    let mut endless = budget_of(None);
+    let Ok(found) = basis(ring, alloc, given, &Grevlex, &mut endless) else {
+        return Ok(false);
+    };
+    let lists = combinations(ring, alloc, given, &found, &Grevlex)?;
+    'elements: for k in 0..lists.len() {
+        if !multiplies_out(alloc, ring, &lists[k], given, &found.polys[k])? {
+            return Ok(false);
+        }
+    }
+    Ok(found.polys.len() > given.len())
+}
+
+#[test]
+fn combines_the_polynomials_given(rt: HostRuntime) -> Result<(), Fail> {
+    let alloc = rt.alloc();
+    let ring = PolyRing::new(Gf::new(101)?, 2);
+    let first = [(1, 2, 0), (100, 0, 0)];
+    let second = [(1, 1, 1), (100, 0, 0)];
+    let given = two(alloc, &ring, &first, &second)?;
+    assert!(rt;
+        all_multiply_out(alloc, &ring, &given)?,
+        "each element is the combination of the polynomials given"
     );
     Ok(())
 }

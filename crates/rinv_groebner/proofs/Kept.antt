@@ -22,7 +22,7 @@ none_passes test [] h e = elim h [ ]
 none_passes test (x ∷ xs) Has.first e = grind (arith, nat_tests, e)
 none_passes test (x ∷ xs) (Has.later h) e = let rest : list_any test xs ≡ false = grind (arith, nat_tests, e) in none_passes test xs h rest
 
-has-append : {X : Type 0} {x : X} (xs ys : List X) → Has x ys → Has x (xs ++ ys)
+pub has-append : {X : Type 0} {x : X} (xs ys : List X) → Has x ys → Has x (xs ++ ys)
 has-append [] ys h = h
 has-append (x ∷ xs) ys h = Has.later (has-append xs ys h)
 

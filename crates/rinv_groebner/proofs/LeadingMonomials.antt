@@ -1,4 +1,5 @@
 -- The leading monomial of a formal sum is its greatest.
+--   some_monomial        a sum that is not zero has a monomial
 --   present, has_monomial-same    a monomial that a sum has is that of one of its terms; it may be written in another way
 --   leading_monomial-leads    the leading monomial of a sum that is not zero is its greatest
 --   leads-out            the greatest monomial of the class of a sum is that of the sum
@@ -74,7 +75,7 @@ module _ {E : Type 0} (o : RingOps E) (l : RingLaws o) where
   zero_from f h = same-from_coefficients o f [] h
 
   -- a sum that is not zero has a monomial
-  some_monomial : (f : Polynomial E) → IsFalse (is_zero o f) → (a : List ℕ) × Has a (monomials o f)
+  pub some_monomial : (f : Polynomial E) → IsFalse (is_zero o f) → (a : List ℕ) × Has a (monomials o f)
   some_monomial f n = go (monomials o f) refl
     where
       missing : monomials o f ≡ [] → (e : List ℕ) (b : Bool) → o.same (coefficient o f e) o.zero ≡ b → IsSame o (coefficient o f e) o.zero

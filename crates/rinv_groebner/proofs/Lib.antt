@@ -53,3 +53,10 @@ pub mod JournalUnique
 pub mod PairLists
 pub mod JournalExists
 pub mod Permuted
+pub mod PastMonomials
+pub mod PastPolynomials
+pub mod CopiesLists
+pub mod BasisPairs
+pub mod CopiesBasis
+pub mod FurtherVariables
+pub mod KnownOrders

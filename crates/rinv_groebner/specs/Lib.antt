@@ -6,3 +6,4 @@ pub mod Journal
 pub mod Count
 pub mod Reduced
 pub mod Elimination
+pub mod Copies

@@ -2,5 +2,6 @@
 //! The functions do nothing: each contract is a law of the definitions, over any field and in any order of monomials.
 #![tactic(auto)]
 
+pub mod copies;
 pub mod laws;
 pub mod reduced;

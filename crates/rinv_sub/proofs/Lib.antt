@@ -5,3 +5,4 @@ pub mod Padded
 pub mod Placed
 pub mod Renamed
 pub mod PlacedTerms
+pub mod Images

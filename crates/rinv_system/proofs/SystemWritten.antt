@@ -6,7 +6,8 @@ use Rattle.rinv_text.specs.Told.{Told}
 use Rattle.rinv_system.specs.Written.{numbers_text, polynomials_text, line_text, first_lines, ideal_lines, product_line, inverse_line, action_line, map_lines, budget_lines, text_of, system_text}
 use Rattle.rinv_system.specs.Writing.{AreOver, AppendsPolynomialsLine}
 use Rattle.rinv_system.proofs.GoodLists.{length-two_copies}
-use Rattle.rinv_system.proofs.SystemFacts.{HasParts, AreNormal, over-stored}
+use Rattle.rinv_text.proofs.SystemParts.{HasParts, AreNormal}
+use Rattle.rinv_system.proofs.SystemFacts.{over-stored}
 use Rattle.rinv_system.proofs.WrittenLists.{line-more, lines-more, no-line}
 
 -- a line in three pieces

@@ -27,7 +27,7 @@ use Rattle.rinv_text.proofs.PrintedSums.{IsPrintedText, printed-text}
 use Rattle.rinv_system.specs.Entries.{entries_of, is_numeral}
 use Rattle.rinv_system.specs.Forms.{AreEntries}
 use Rattle.rinv_system.specs.Written.{list_text}
-use Rattle.rinv_system.proofs.SystemFacts.{AreNormal}
+use Rattle.rinv_text.proofs.SystemParts.{AreNormal}
 use Rattle.rinv_system.proofs.WrittenEntries.{AreSolid, behind_blanks, list-entries}
 use Rattle.rinv_system.proofs.WrittenLines.{IsLineText, list-line, solid-line}
 

@@ -5,7 +5,6 @@ use Rattle.std.proofs.lemmas.Bool.Decides.{nat_tests}
 use Rattle.std.proofs.lemmas.List.{length-map}
 use Rattle.rinv_algebra.specs.Residue.{is_listed}
 use Rattle.rinv_defs.specs.System.{System, Poly}
-use Rattle.rinv_defs.specs.Names.{is_between}
 use Rattle.rinv_defs.specs.Text.{poly_text}
 use Rattle.rinv_text.specs.Told.{Told}
 use Rattle.rinv_text.specs.Names.{copies}
@@ -17,17 +16,13 @@ use Rattle.rinv_system.specs.Forms.{IsRestTaken, TellsNumber, TellsNames, TellsP
 use Rattle.rinv_system.specs.Texts.{AreTaken, IsSystemText, told_by}
 use Rattle.rinv_system.specs.Written.{list_text, numbers_text, polynomials_text, line_text, first_lines, ideal_lines, map_lines, budget_lines, written_lines, system_text, IsWritable}
 use Rattle.rinv_system.proofs.GoodLists.{length-two_copies}
-use Rattle.rinv_system.proofs.SystemFacts.{HasParts, AreNormal, parts-of}
+use Rattle.rinv_text.proofs.SystemParts.{HasParts, AreNormal, between, parts-of}
 use Rattle.rinv_system.proofs.WrittenEntries.{list-words}
 use Rattle.rinv_system.proofs.WrittenNames.{names-new, name-words, are-words, factors-words, both-words}
 use Rattle.rinv_system.proofs.WrittenLines.{IsLineText, AreLines, word-line, list-line, lines-append, text-contents, text-good}
 use Rattle.rinv_system.proofs.WrittenRests.{AreTexts, as_polynomial, number-line, entries-line, polynomials-texts, numbers-texts, constants-back}
 use Rattle.rinv_system.proofs.WrittenHeads.{head-field, head-group, head-space, head-ideal, head-unit, head-product, head-inverse, head-action, head-pairs, head-steps}
 use Rattle.rinv_system.proofs.WrittenTaken.{taken, chained, number-taken, names-solid, names-taken, polynomials-taken, within, as-many}
-
--- at least one, and at most eight
-between : (n : ℕ) → is_between 1 8 n ≡ true → (1 ≤ n) × (n ≤ 8)
-between n h = (grind (arith, nat_tests), grind (arith, nat_tests))
 
 listed-least : (p : ℕ) → IsTrue (is_listed p) → p < 2 ^ 64
 listed-least p h = grind (arith, nat_tests)

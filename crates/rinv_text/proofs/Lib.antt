@@ -46,3 +46,4 @@ pub mod PrintedPhrases
 pub mod PrintedTerms
 pub mod PrintedOrder
 pub mod PrintedSums
+pub mod SystemParts

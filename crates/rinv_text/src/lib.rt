@@ -29,6 +29,7 @@ pub use fault::{TextCode, TextFault, TextStop};
 pub use form::{has_name_form, is_digit, is_letter};
 pub use fraction::write_fraction;
 pub use names::Names;
+pub use partial::variable;
 pub use polynomial::{write_poly, written};
 pub use reading::{is_expression, read_bytes, read_poly};
 pub use system::System;

@@ -1,0 +1,28 @@
+use Rattle.std.proofs.Common.{◌∙◌, ap, length}
+use Rattle.rinv_text.specs.Told.{Told}
+use Rattle.rinv_text.proofs.SystemParts.{parts-of}
+use Rattle.rinv_laws.proofs.Computed.{over}
+use Rattle.rinv_laws.proofs.GroupFacts.{over-itself, group_basis-of}
+use Rattle.rinv_laws.proofs.group.group_basis.Goals as goal
+
+pub basis-requires-clause-given : goal.basis-requires-clause-given
+basis-requires-clause-given c =
+    let s = c.args.system.now.system in
+    over c.new-ring.result.coeffs s.p c.new-ring.result.vars (length s.group) c.deref.result.now s.ideal
+    (c.new-ring.ensures.ring ∙ ap (λ (t : Told). t.system.p) c.system.view_is)
+    (c.new-ring.ensures.count ∙ c.len.ensures.len ∙ ap (λ (t : Told). length t.system.group) c.system.view_is)
+    (c.deref.ensures.value ∙ ap (λ (t : Told). t.system.ideal) c.system.view_is)
+    (parts-of s c.requires.system).ideal
+
+pub interreduce-requires-clause-groebner : goal.interreduce-requires-clause-groebner
+interreduce-requires-clause-groebner c = over-itself c.new-ring.result.coeffs c.new-ring.result.vars c.deref.result.now c.in_ok-found.found.polys c.in_ok-found.ensures.groebner
+
+pub returns-in-Ok-clause-basis : goal.returns-in-Ok-clause-basis
+returns-in-Ok-clause-basis c =
+    let found = c.in_ok-found.ensures in
+    let made = c.in-Ok.ensures in
+    group_basis-of c.args.system.now.system c.new-ring.result.coeffs c.new-ring.result.vars c.deref.result.now c.in_ok-found.found c.in-Ok.reduced.items
+    (c.new-ring.ensures.ring ∙ ap (λ (t : Told). t.system.p) c.system.view_is)
+    (c.new-ring.ensures.count ∙ c.len.ensures.len ∙ ap (λ (t : Told). length t.system.group) c.system.view_is)
+    (c.deref.ensures.value ∙ ap (λ (t : Told). t.system.ideal) c.system.view_is)
+    found.journal found.complete found.polys found.groebner made.reduced made.ascending made.normal

@@ -1,0 +1,44 @@
+-- The laws by their names, and the variables in which their parts are written.
+use Rattle.std.specs.Prelude.{ℕ, ◌+◌, ◌*◌}
+use Rattle.rinv_defs.specs.System.{System, group_count, space_count}
+use Rattle.rinv_defs.specs.Laws.{Law, copies}
+use Rattle.rinv_defs.specs.Laws.Law.{L1, L2, L3, L4, L5, L6, A1, A2}
+use Rattle.rinv_laws.specs.declared.law.LawName.{LawName}
+use Rattle.rinv_laws.specs.declared.law.LawName.TheVariants.{L1 as N1, L2 as N2, L3 as N3, L4 as N4, L5 as N5, L6 as N6, A1 as M1, A2 as M2}
+
+-- the law with a name
+abbrev pub law_of : LawName → Law
+law_of N1 = L1
+law_of N2 = L2
+law_of N3 = L3
+law_of N4 = L4
+law_of N5 = L5
+law_of N6 = L6
+law_of M1 = A1
+law_of M2 = A2
+
+-- the place of a law among those that are tested
+abbrev pub rank : Law → ℕ
+rank L1 = 0
+rank L2 = 1
+rank L3 = 2
+rank L4 = 3
+rank L5 = 4
+rank L6 = 5
+rank A1 = 6
+rank A2 = 7
+
+-- how many variables the points of the space have in a law: none, or the space's
+abbrev pub space_in : System → Law → ℕ
+space_in s L1 = 0
+space_in s L2 = 0
+space_in s L3 = 0
+space_in s L4 = 0
+space_in s L5 = 0
+space_in s L6 = 0
+space_in s A1 = space_count s
+space_in s A2 = space_count s
+
+-- the variables of a law's parts: those of the copies of the group, then the space's where it speaks of one
+abbrev pub variables_of : System → Law → ℕ
+variables_of s law = copies law * group_count s + space_in s law

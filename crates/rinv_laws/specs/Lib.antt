@@ -1,0 +1,4 @@
+pub mod LawNames
+pub mod Points
+pub mod Parts
+pub mod Group
