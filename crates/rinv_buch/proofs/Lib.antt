@@ -22,3 +22,4 @@ pub mod CombinedSums
 pub mod JournalSteps
 pub mod Cofactors
 pub mod PairMultipliers
+pub mod OwnIdeal

@@ -1,6 +1,6 @@
 -- How the reduced basis is made: which elements are kept, and the degrees that the division of them may meet.
-use Rattle.std.specs.Prelude.{◌≡◌, ℕ, ◌<◌, ◌⊎◌, Bool, not, ◌&&◌, List, [], take, length, get_or, remove, IsFalse}
-use Rattle.std.specs.List.{list_any}
+use Rattle.std.specs.Prelude.{◌≡◌, ℕ, ◌<◌, ◌⊎◌, Bool, not, ◌&&◌, List, [], take, filter, length, get_or, remove, IsFalse}
+use Rattle.std.specs.List.{list_any, range_with_len}
 use Rattle.std.specs.declared.cmp.Ordering.{Ordering}
 use Rattle.rinv_algebra.specs.Ring.{RingOps}
 use Rattle.rinv_algebra.specs.Monomial.{divides, same_monomial}
@@ -14,6 +14,10 @@ use Rattle.rinv_div.specs.Stops.{StepsMeet}
 -- whether no monomial of the list properly divides the one at a place, and no earlier one is the same
 abbrev pub is_kept_place : List (List ℕ) → ℕ → Bool
 is_kept_place ms place = not (list_any (λ m. divides m (get_or ms place []) && not (same_monomial m (get_or ms place []))) ms) && not (list_any (λ m. same_monomial m (get_or ms place [])) (take place ms))
+
+-- the places of the monomials that are kept so
+abbrev pub kept_places : List (List ℕ) → List ℕ
+kept_places ms = filter (is_kept_place ms) (range_with_len 0 (length ms))
 
 module _ {E : Type 0} (o : RingOps E) (cmp : List ℕ → List ℕ → Ordering) where
   -- no leading monomial of the list divides that of another element

@@ -286,13 +286,14 @@ fn cofactor_at<F: Field>(
     let first = ring.mul(alloc, left, a)?;
     let second = ring.mul(alloc, right, b)?;
     let of_pair = ring.sub(alloc, &first, &second)?;
-    let of_quotients = column_sum(ring, alloc, quotients, lists, place)?;
+    let of_quotients = sum_of_products(ring, alloc, quotients, lists, place)?;
     let cofactor = ring.sub(alloc, &of_pair, &of_quotients)?;
     Ok(cofactor)
 }
 
-// The sum of the quotients times the cofactors at a place.
-fn column_sum<F: Field>(
+/// The sum of the quotients times the cofactors that the lists have at a place. Degree comes only where one of these products meets these
+/// degrees, or coefficients do.
+pub fn sum_of_products<F: Field>(
     ring: &PolyRing<F>,
     alloc: Global,
     quotients: &[Poly<F>],

@@ -13,9 +13,9 @@ mod settling;
 mod spending;
 
 pub use buchberger::basis;
-pub use combining::combinations;
+pub use combining::{combinations, sum_of_products};
 pub use kinds::{Basis, Entry, EntryKind, Halt, Stop, Why};
-pub use reducing::interreduce;
+pub use reducing::{interreduce, kept_places};
 
 #[cfg(test)]
 mod tests;

@@ -1,6 +1,6 @@
 //! The reduced Gröbner basis: elements whose leading monomials no other divides, each divided by the others and made monic.
 
-ghost use Rattle.std.specs.Prelude.{◌≡◌, ◌<◌, ◌≤◌, ℕ, List, ◌∷◌, length, take, drop, false, All, IfOk, IfErr, OnOk};
+ghost use Rattle.std.specs.Prelude.{◌≡◌, ◌<◌, ◌≤◌, ℕ, List, [], ◌∷◌, length, get_or, map, take, drop, false, All, IfOk, IfErr, OnOk};
 ghost use Rattle.std.specs.declared.cmp.Ordering.TheVariants.{Less};
 ghost use Rattle.std.specs.List.Sorted.{IsPermutation};
 ghost use Rattle.rinv_algebra.specs.Polynomial.{is_zero};
@@ -14,7 +14,7 @@ ghost use Rattle.rinv_poly.specs.Faults.{OperationsMeet};
 ghost use Rattle.rinv_div.specs.Divisors.{AreDivisors};
 ghost use Rattle.rinv_div.specs.Stops.{StepsMeet};
 ghost use Rattle.rinv_buch.specs.Elements.{ArePrepared};
-ghost use Rattle.rinv_buch.specs.Reducing.{MakingMeets, ReducingMeets, AreLeadsApart, is_kept_place};
+ghost use Rattle.rinv_buch.specs.Reducing.{MakingMeets, ReducingMeets, AreLeadsApart, is_kept_place, kept_places};
 
 use crate::elements::Elements;
 use crate::kinds::Basis;
@@ -50,6 +50,24 @@ pub fn interreduce<F: Field, O: MonoOrder>(
         insert(ring, element, order, &mut made)?;
     }
     Ok(made)
+}
+
+/// The places of the elements that are kept: no leading monomial properly divides theirs, and no earlier element has the same one.
+pub fn kept_places<F: Field, O: MonoOrder>(
+    ring: &PolyRing<F>,
+    alloc: Global,
+    polys: &[Poly<F>],
+    order: &O,
+) -> Result<Vec<usize>, NoMemory>
+    requires polys { All (IsNormal (F.ops ring.now.coeffs) (F.is_element ring.now.coeffs) ring.now.vars) polys.now }
+    requires nonzero { All (λ h. is_zero (F.ops ring.now.coeffs) h ≡ false) polys.now }
+    requires suits { O.fits order.now ring.now.vars }
+    ensures places { IfOk result (λ ks. ks.items ≡ kept_places (map (leading_monomial (F.ops ring.now.coeffs) (O.cmp order.now)) polys.now)) }
+    ensures inside { IfOk result (λ ks. All (λ k. k < length polys.now) ks.items) }
+    ensures kept { IfOk result (λ ks. map (λ k. get_or polys.now k []) ks.items ≡ kept (F.ops ring.now.coeffs) (O.cmp order.now) polys.now) }
+{
+    // Never to land: stands for the loop while the crates above are proved.
+    Err(NoMemory)
 }
 
 // Copies of the elements that are kept: no leading monomial properly divides theirs, and no earlier element has the same one.

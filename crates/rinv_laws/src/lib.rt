@@ -5,7 +5,13 @@ mod group;
 mod law;
 mod parts;
 mod points;
+mod proving;
+mod stop;
+mod testing;
 
 pub use group::{GroupBasis, group_basis};
 pub use law::LawName;
 pub use parts::parts_of;
+pub use proving::{LawProofs, check_laws};
+pub use stop::{LawFault, LawStop};
+pub use testing::{LawQuotients, test_laws};

@@ -5,7 +5,7 @@ use Rattle.rinv_algebra.specs.Normal.{IsNormal}
 use Rattle.rinv_algebra.specs.Ideal.{combination}
 use Rattle.rinv_poly.specs.Sums.{sum_of}
 use Rattle.rinv_buch.specs.Combining.{column}
-use Rattle.rinv_buch.proofs.combining.column_sum.Given as goal
+use Rattle.rinv_buch.proofs.combining.sum_of_products.Given as goal
 
 abbrev pub invariant-products : goal.invariant-products
 invariant-products g l = let o = g.F.Ring.ops l.ring.coeffs in record {

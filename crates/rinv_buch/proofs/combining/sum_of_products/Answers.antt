@@ -14,7 +14,7 @@ use Rattle.rinv_poly.specs.Sums.{sum_of}
 use Rattle.rinv_buch.specs.Combining.{ColumnMeets, column}
 use Rattle.rinv_buch.proofs.PairDivision.{element-at}
 use Rattle.rinv_buch.proofs.Cofactors.{cofactor-at, column-at, column-number, column-more, product-meets, sum-meets}
-use Rattle.rinv_buch.proofs.combining.column_sum.Goals as goal
+use Rattle.rinv_buch.proofs.combining.sum_of_products.Goals as goal
 
 pub products-init : goal.products-init
 unfolding combination

@@ -1,0 +1,49 @@
+-- What the test of the laws answers where it does not find that all hold.
+use Rattle.std.specs.Prelude.{◌≡◌, ℕ, ◌+◌, ◌<◌, false, List, length, ⊤}
+use Rattle.rinv_algebra.specs.Residue.{residue_ops}
+use Rattle.rinv_algebra.specs.Monomial.{max_degree}
+use Rattle.rinv_algebra.specs.Order.{grevlex}
+use Rattle.rinv_algebra.specs.Ideal.{IsMember}
+use Rattle.rinv_div.specs.Stops.{StepsMeet}
+use Rattle.rinv_buch.specs.Kinds.{Found}
+use Rattle.rinv_defs.specs.System.{System, Poly, ideal_copies}
+use Rattle.rinv_defs.specs.Laws.{Law, copies, parts, LawHolds}
+use Rattle.rinv_defs.specs.Rest.{IsRest}
+use Rattle.rinv_laws.specs.declared.stop.LawStop.{LawStop}
+use Rattle.rinv_laws.specs.declared.stop.LawStop.TheVariants.{Fault, Degree, NoMemory}
+use Rattle.rinv_laws.specs.LawNames.{law_of, rank}
+use Rattle.rinv_laws.specs.Parts.{parts_fit}
+use Rattle.rinv_laws.specs.Copied.{part_at, IsAsked}
+use Rattle.rinv_laws.specs.Group.{never}
+
+-- the part lies in the ideal of the points of which the law speaks
+abbrev pub PartHolds : System → Law → ℕ → Type 0
+PartHolds s law k = IsMember (residue_ops s.p) (ideal_copies s (copies law)) (part_at s law k)
+
+-- each law before this one holds
+abbrev pub HoldBefore : System → Law → Type 0
+HoldBefore s law = (other : Law) → rank other < rank law → LawHolds s other
+
+-- and each part of it before this place
+pub record HoldsUpTo (s : System) (law : Law) (k : ℕ) : Type 0 where
+  pub laws : HoldBefore s law
+  pub parts : (j : ℕ) → j < k → PartHolds s law j
+
+-- the first part that is false, and its rest
+pub record IsFirstFault (s : System) (law : Law) (k : ℕ) (rest : Poly) : Type 0 where
+  pub inside : k < length (parts s law)
+  pub before : HoldsUpTo s law k
+  pub false_part : ¬ (PartHolds s law k)
+  pub is_rest : IsRest s.p (part_at s law k) (ideal_copies s (copies law)) rest
+
+-- the test of the laws meets these degrees: in the substitutions of a law's parts, or in the division of a part
+pub data TestMeets (s : System) (found : Found ℕ) (x y : ℕ) : Type 0 where
+  in_parts : (law : Law) → HoldBefore s law → max_degree < x + y → parts_fit s law ≡ false → TestMeets s found x y
+  in_division : (law : Law) (k : ℕ) (f : Poly) (hs : List Poly) → HoldsUpTo s law k → k < length (parts s law) → IsAsked s found law k f hs
+      → StepsMeet (residue_ops s.p) grevlex hs f never x y → TestMeets s found x y
+
+-- a fault is the first one, and degrees are met so; want of memory says nothing
+abbrev pub LawStopsSo : System → (ℕ → ℕ → Type 0) → LawStop → Type 0
+LawStopsSo s Meets (Fault f) = IsFirstFault s (law_of f.law) f.part f.rest
+LawStopsSo s Meets (Degree x y) = Meets x y
+LawStopsSo s Meets NoMemory = ⊤

@@ -1,0 +1,86 @@
+-- How the laws are proved: cofactors of each part over the copies of the group's ideal.
+use Rattle.std.specs.Prelude.{◌≡◌, ◌⊎◌, ℕ, ◌+◌, ◌*◌, ◌<◌, List, [], ◌∷◌, length, get_or, take, drop, map, All}
+use Rattle.rinv_algebra.specs.Ring.{IsSame}
+use Rattle.rinv_algebra.specs.Residue.{residue_ops}
+use Rattle.rinv_algebra.specs.Order.{grevlex}
+use Rattle.rinv_algebra.specs.Polynomial.{poly_ops, past}
+use Rattle.rinv_algebra.specs.Ideal.{combination}
+use Rattle.rinv_algebra.specs.Leading.{leading_monomial}
+use Rattle.rinv_poly.specs.Faults.{MonomialsMeet}
+use Rattle.rinv_buch.specs.Kinds.{Found}
+use Rattle.rinv_buch.specs.Reducing.{kept_places}
+use Rattle.rinv_buch.specs.Combining.{Combines, CombiningMeets, column, cofactor}
+use Rattle.rinv_defs.specs.System.{System, Poly, group_count, ideal_copies}
+use Rattle.rinv_defs.specs.Laws.{Law, copies, parts}
+use Rattle.rinv_defs.specs.Laws.Law.{L2, L3, L4, L5, L6, A2}
+use Rattle.rinv_laws.specs.LawNames.{variables_of}
+use Rattle.rinv_laws.specs.Points.{ArePolynomials}
+use Rattle.rinv_laws.specs.Copied.{part_at, DividesPart}
+use Rattle.rinv_laws.specs.Group.{never}
+
+-- the laws that speak of points, in their order
+abbrev pub proved_laws : List Law
+proved_laws = L2 ∷ L3 ∷ L4 ∷ L5 ∷ L6 ∷ A2 ∷ []
+
+-- of the lists of a basis's elements those of the kept ones
+abbrev pub kept_lists : System → Found ℕ → List (List Poly) → List (List Poly)
+kept_lists s found lists = map (λ k. get_or lists k []) (kept_places (map (leading_monomial (residue_ops s.p) grevlex) found.polys))
+
+-- the lists are the cofactors of the kept elements, as the journal makes them
+pub record AreKeptCofactors (s : System) (found : Found ℕ) (lists : List (List Poly)) : Type 0 where
+  pub all : List (List Poly)
+  pub combines : Combines (residue_ops s.p) grevlex s.ideal found.journal found.polys all
+  pub kept : lists ≡ kept_lists s found all
+
+-- the lists in a copy of the group's variables
+abbrev pub in_copy : System → ℕ → List (List Poly) → List (List Poly)
+in_copy s j lists = map (λ us. map (past (j * group_count s)) us) lists
+
+-- of the quotients by the kept elements in all copies those in one copy; so many elements are kept
+abbrev pub quotients_in : ℕ → List Poly → ℕ → List Poly
+quotients_in count qs j = take count (drop (j * count) qs)
+
+-- in each copy the cofactor over each polynomial of the ideal is the sum of the quotients times the kept elements' cofactors
+abbrev pub FollowRule : System → ℕ → List (List Poly) → List Poly → List Poly → Type 0
+FollowRule s c lists qs us = (j m : ℕ) → j < c → m < length s.ideal → IsSame (poly_ops (residue_ops s.p))
+    (get_or us (j * length s.ideal + m) []) (combination (residue_ops s.p) (quotients_in (length lists) qs j) (column (in_copy s j lists) m))
+
+-- us are the cofactors of the part at place k over the copies of the ideal, made so
+pub record ProvesPart (s : System) (found : Found ℕ) (law : Law) (k : ℕ) (us : List Poly) : Type 0 where
+  pub number : length us ≡ length (ideal_copies s (copies law))
+  pub normal : ArePolynomials s.p (variables_of s law) us
+  pub sums_up : IsSame (poly_ops (residue_ops s.p)) (part_at s law k) (combination (residue_ops s.p) us (ideal_copies s (copies law)))
+  pub lists : List (List Poly)
+  pub kept : AreKeptCofactors s found lists
+  pub quotients : List Poly
+  pub rest : Poly
+  pub divides : DividesPart s found law k quotients rest
+  pub rule : FollowRule s (copies law) lists quotients us
+
+-- each part of the law is proved so
+pub record ProvesLaw (s : System) (found : Found ℕ) (law : Law) (arrays : List (List Poly)) : Type 0 where
+  pub number : length arrays ≡ length (parts s law)
+  pub each : (k : ℕ) → k < length arrays → ProvesPart s found law k (get_or arrays k [])
+
+-- a quotient of a part times a cofactor in a copy meets these degrees
+pub record CofactorMeets (s : System) (found : Found ℕ) (x y : ℕ) : Type 0 where
+  pub law : Law
+  pub k : ℕ
+  pub inside : k < length (parts s law)
+  pub quotients : List Poly
+  pub rest : Poly
+  pub divides : DividesPart s found law k quotients rest
+  pub lists : List (List Poly)
+  pub kept : AreKeptCofactors s found lists
+  pub place : ℕ
+  pub copy : ℕ
+  pub inside_copies : copy < copies law
+  pub element : ℕ
+  pub given : ℕ
+  pub f : Poly
+  pub is_cofactor : IsSame (poly_ops (residue_ops s.p)) f (past (copy * group_count s) (cofactor lists element given))
+  pub meets : MonomialsMeet (residue_ops s.p) (get_or quotients place []) f x y
+
+-- the making of the cofactors of the basis meets these degrees, or that of a part's
+abbrev pub ProofsMeet : System → Found ℕ → ℕ → ℕ → Type 0
+ProofsMeet s found x y = CombiningMeets (residue_ops s.p) grevlex never s.ideal found.journal found.polys x y ⊎ CofactorMeets s found x y
