@@ -92,6 +92,33 @@ pub fn divide<F: Field, O: MonoOrder>(
     divide_by(ring, alloc, f, basis, &divisors, order, steps)
 }
 
+/// Divides by the polynomials of the basis, of which the divisors were made, as `divide_by` does, with no budget. Degree comes only where
+/// the next step meets these degrees.
+pub fn divide_wholly<R: Ring, O: MonoOrder>(
+    ring: &PolyRing<R>,
+    alloc: Global,
+    f: &Poly<R>,
+    basis: &[Poly<R>],
+    divisors: &Divisors<R>,
+    order: &O,
+) -> Result<Division<R>, RingFault>
+    requires dividend { IsNormal (R.ops ring.now.coeffs) (R.is_element ring.now.coeffs) ring.now.vars f.now }
+    requires suits { O.fits order.now ring.now.vars }
+    requires divisors { AreDivisors (R.ops ring.now.coeffs) (R.is_element ring.now.coeffs) ring.now.vars (O.cmp order.now) basis.now divisors.now.list.items }
+    ensures division { IfOk result (λ d. (steps : List (Step R.Elem)) × Divides (R.ops ring.now.coeffs) (O.cmp order.now) basis.now f.now d.quotients.items d.rest steps) }
+    ensures quotients { IfOk result (λ d. All (IsNormal (R.ops ring.now.coeffs) (R.is_element ring.now.coeffs) ring.now.vars) d.quotients.items) }
+    ensures rest { IfOk result (λ d. IsNormal (R.ops ring.now.coeffs) (R.is_element ring.now.coeffs) ring.now.vars d.rest) }
+    ensures degree { IfErr result (DegreesMeet (StepsMeet (R.ops ring.now.coeffs) (O.cmp order.now) basis.now f.now (R.too_high ring.now.coeffs))) }
+{
+    let mut endless = Budget::without_end();
+    match divide_by(ring, alloc, f, basis, divisors, order, &mut endless) {
+        Ok(division) => Ok(division),
+        Err(DivStop::Degree { left, right, .. }) => Err(RingFault::Degree { left, right }),
+        Err(DivStop::NoMemory) => Err(RingFault::NoMemory),
+        Err(DivStop::Steps { .. }) => unreachable!(),
+    }
+}
+
 /// Divides by polynomials whose leading coefficients are one, as `divide` does, over any ring. Degree comes only where the next step
 /// meets these degrees.
 pub fn divide_monic<R: Ring, O: MonoOrder>(
@@ -115,11 +142,5 @@ pub fn divide_monic<R: Ring, O: MonoOrder>(
     for h in basis {
         divisors.push_monic(ring, alloc, h, order)?;
     }
-    let mut endless = Budget::without_end();
-    match divide_by(ring, alloc, f, basis, &divisors, order, &mut endless) {
-        Ok(division) => Ok(division),
-        Err(DivStop::Degree { left, right, .. }) => Err(RingFault::Degree { left, right }),
-        Err(DivStop::NoMemory) => Err(RingFault::NoMemory),
-        Err(DivStop::Steps { .. }) => unreachable!(),
-    }
+    divide_wholly(ring, alloc, f, basis, &divisors, order)
 }

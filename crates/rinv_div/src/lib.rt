@@ -15,6 +15,6 @@ mod tests;
 mod turning;
 
 pub use budget::Budget;
-pub use dividing::{divide, divide_by, divide_monic};
+pub use dividing::{divide, divide_by, divide_monic, divide_wholly};
 pub use divisors::{Divisor, Divisors};
 pub use stop::{DivStop, Division};
