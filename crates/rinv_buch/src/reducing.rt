@@ -19,7 +19,7 @@ ghost use Rattle.rinv_buch.specs.Reducing.{MakingMeets, ReducingMeets, AreLeadsA
 use crate::elements::Elements;
 use crate::kinds::Basis;
 use crate::s_polynomial::leading_term;
-use rinv_div::{Divisors, divide_wholly};
+use rinv_div::{Budget, DivStop, Divisors, divide_by};
 use rinv_mono::{Mono, MonoOrder};
 use rinv_poly::{Poly, PolyRing};
 use rinv_ring::{Field, NoMemory, Ring, RingFault};
@@ -135,11 +135,36 @@ fn made_at<F: Field, O: MonoOrder>(
     let element = elements.polys.remove(place);
     let divisor = elements.divisors.remove(place);
     let (polys, divisors) = (&elements.polys, &elements.divisors);
-    let rest = divide_wholly(ring, alloc, &element, polys, divisors, order)?.rest;
+    let rest = rest_of(ring, alloc, &element, polys, divisors, order)?;
     elements.polys.insert(place, element)?;
     elements.divisors.insert(place, divisor)?;
     let made = monic(ring, alloc, &rest, order)?;
     Ok(made)
+}
+
+// What division of the polynomial leaves.
+fn rest_of<F: Field, O: MonoOrder>(
+    ring: &PolyRing<F>,
+    alloc: Global,
+    f: &Poly<F>,
+    basis: &[Poly<F>],
+    divisors: &Divisors<F>,
+    order: &O,
+) -> Result<Poly<F>, RingFault>
+    requires dividend { IsNormal (F.ops ring.now.coeffs) (F.is_element ring.now.coeffs) ring.now.vars f.now }
+    requires suits { O.fits order.now ring.now.vars }
+    requires divisors { AreDivisors (F.ops ring.now.coeffs) (F.is_element ring.now.coeffs) ring.now.vars (O.cmp order.now) basis.now divisors.now.list.items }
+    ensures normal { IfOk result (IsNormal (F.ops ring.now.coeffs) (F.is_element ring.now.coeffs) ring.now.vars) }
+    ensures rest { IfOk result (λ r. (steps : List (Step F.Elem)) × IsDivision (F.ops ring.now.coeffs) (O.cmp order.now) basis.now f.now steps r) }
+    ensures degree { IfErr result (DegreesMeet (StepsMeet (F.ops ring.now.coeffs) (O.cmp order.now) basis.now f.now (F.too_high ring.now.coeffs))) }
+{
+    let mut endless = Budget::without_end();
+    match divide_by(ring, alloc, f, basis, divisors, order, &mut endless) {
+        Ok(division) => Ok(division.rest),
+        Err(DivStop::Degree { left, right, .. }) => Err(RingFault::Degree { left, right }),
+        Err(DivStop::NoMemory) => Err(RingFault::NoMemory),
+        Err(DivStop::Steps { .. }) => unreachable!(),
+    }
 }
 
 // The polynomial times the inverse of its leading coefficient.

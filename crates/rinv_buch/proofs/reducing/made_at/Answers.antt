@@ -5,8 +5,8 @@ use Rattle.rinv_buch.proofs.Makings.{division-at, made-at, rest_remains}
 use Rattle.rinv_buch.proofs.TakenOut.{put-back, divisors-taken, divisors-nonzero, prepared-same}
 use Rattle.rinv_buch.proofs.reducing.made_at.Goals as goal
 
-pub divide_wholly-requires-clause-divisors : goal.rest_of-requires-clause-divisors
-divide_wholly-requires-clause-divisors g c =
+pub rest_of-requires-clause-divisors : goal.rest_of-requires-clause-divisors
+rest_of-requires-clause-divisors g c =
     rw (c.deref.ensures.value, c.remove-element.ensures.items, c.remove-divisor.ensures.left)
     (divisors-taken (g.F.Ring.ops c.args.ring.now.coeffs) (g.F.Ring.is_element c.args.ring.now.coeffs) c.args.ring.now.vars (g.O.MonoOrder.cmp c.args.order.now) c.args.elements.now.polys.items c.args.elements.now.divisors.list.items c.args.place c.requires.inside c.requires.prepared.divisors)
 
