@@ -3,7 +3,8 @@
 --   kept-none, kept-all  a place is kept where no place stands against it
 --   places-more, place-kept, place-past    the places that pass a test, one more
 --   kept_place-is        the monomial's place is kept where the element is
---   kept-at_places, kept_places-inside     the elements at the kept places
+--   places-end, kept-at_places, kept_places-inside    the kept places, once all are passed, and the elements there
+--   elements-more        the elements at the first places, one more
 use Rattle.std.proofs.Common.{◌≡◌, ℕ, zero, suc, ◌<◌, ◌≤◌, ◌+◌, Bool, true, false, not, ◌&&◌, ◌||◌, List, [], ◌∷◌, ◌++◌, length, map, take, drop, get_or, refl, sym, ◌∙◌, ap, ap₂, cond, subst, subst₂, All, filter, ◌⊎◌, inl, inr, arith, true≢false}
 use Rattle.std.specs.Prelude.{nat_lt}
 use Rattle.std.specs.List.{list_any, range_with_len}
@@ -130,8 +131,8 @@ places-more test k =
 
 module _ (test : ℕ → Bool) (k : ℕ) (places : List ℕ) (so_far : places ≡ filter test (range_with_len 0 k)) where
   -- where it passes
-  pub place-kept : test k ≡ true → (after : List ℕ) → after ≡ places ++ k ∷ [] → after ≡ filter test (range_with_len 0 (k + 1))
-  place-kept on after put = put ∙ ap₂ (λ (ks : List ℕ) (b : Bool). ks ++ cond b (k ∷ []) []) so_far (sym on) ∙ sym (places-more test k)
+  pub place-kept : test k ≡ true → places ++ k ∷ [] ≡ filter test (range_with_len 0 (k + 1))
+  place-kept on = ap₂ (λ (ks : List ℕ) (b : Bool). ks ++ cond b (k ∷ []) []) so_far (sym on) ∙ sym (places-more test k)
 
   -- and where it does not
   pub place-past : test k ≡ false → places ≡ filter test (range_with_len 0 (k + 1))
@@ -140,7 +141,8 @@ module _ (test : ℕ → Bool) (k : ℕ) (places : List ℕ) (so_far : places �
 range-inside : (n : ℕ) → All (λ k. k < n) (range_with_len 0 n)
 range-inside n = All-from_get_or (λ k. k < n) (range_with_len 0 n) 0 (λ i low.
     let inside : i < n = omega (arith, low, length-range_with_len 0 n) in
-    subst (λ (k : ℕ). k < n) (sym (get_or-range_with_len 0 n i 0 inside)) inside)
+    let e = get_or-range_with_len 0 n i 0 inside in
+    omega (arith, inside, e))
 
 map-cond : {X Y : Type 0} (f : X → Y) (b : Bool) (x : X) → map f (cond b (x ∷ []) []) ≡ cond b (f x ∷ []) []
 map-cond f true x = refl
@@ -149,6 +151,10 @@ map-cond f false x = refl
 cond-append : {X : Type 0} (b : Bool) (x : X) (xs : List X) → cond b (x ∷ xs) xs ≡ cond b (x ∷ []) [] ++ xs
 cond-append true x xs = refl
 cond-append false x xs = refl
+
+-- the element at a place
+abbrev pub element_at : {E : Type 0} → List (Polynomial E) → ℕ → Polynomial E
+element_at hs k = get_or hs k []
 
 module _ {E : Type 0} (o : RingOps E) (cmp : List ℕ → List ℕ → Ordering) (hs : List (Polynomial E)) where
   -- the monomial's place is kept where the element is
@@ -160,7 +166,7 @@ module _ {E : Type 0} (o : RingOps E) (cmp : List ℕ → List ℕ → Ordering)
       (list_any-mapped (λ m. same_monomial m (leading_monomial o cmp (get_or hs k []))) (leading_monomial o cmp) (take k hs)))
 
   abbrev element : ℕ → Polynomial E
-  element k = get_or hs k []
+  element = element_at hs
 
   abbrev test : ℕ → Bool
   test = is_kept_place (map (leading_monomial o cmp) hs)
@@ -188,6 +194,10 @@ module _ {E : Type 0} (o : RingOps E) (cmp : List ℕ → List ℕ → Ordering)
       ∙ append_assoc (map element (filter test (range_with_len 0 k))) (cond (test k) (element k ∷ []) []) (kept_from (k + 1))
       ∙ ap (λ (r : List (Polynomial E)). map element (filter test (range_with_len 0 k)) ++ r) (sym (one_more k inside)) ∙ split-at k (omega (arith, low)))
 
+  -- the kept places, once all are passed
+  pub places-end : (places : List ℕ) (k : ℕ) → k ≡ length hs → places ≡ filter test (range_with_len 0 k) → places ≡ kept_places (map (leading_monomial o cmp) hs)
+  places-end places k end so_far = so_far ∙ ap (λ (n : ℕ). filter test (range_with_len 0 n)) (end ∙ sym (length-map hs (leading_monomial o cmp)))
+
   -- the elements at the kept places are the kept elements
   pub kept-at_places : map element (kept_places (map (leading_monomial o cmp) hs)) ≡ kept o cmp hs
   unfolding kept_after
@@ -197,4 +207,11 @@ module _ {E : Type 0} (o : RingOps E) (cmp : List ℕ → List ℕ → Ordering)
 
   -- and are inside
   pub kept_places-inside : All (λ k. k < length hs) (kept_places (map (leading_monomial o cmp) hs))
-  kept_places-inside = subst (λ (n : ℕ). All (λ k. k < n) (kept_places (map (leading_monomial o cmp) hs))) (length-map hs (leading_monomial o cmp)) (All-filter test _ (range_with_len 0 (length (map (leading_monomial o cmp) hs))) (range-inside (length (map (leading_monomial o cmp) hs))))
+  kept_places-inside = subst (λ (n : ℕ). All (λ k. k < n) (kept_places (map (leading_monomial o cmp) hs))) (length-map hs (leading_monomial o cmp)) (All-filter test (λ k. k < length (map (leading_monomial o cmp) hs)) (range_with_len 0 (length (map (leading_monomial o cmp) hs))) (range-inside (length (map (leading_monomial o cmp) hs))))
+
+-- the elements at the first places, one more
+pub elements-more : {E : Type 0} (hs : List (Polynomial E)) (places : List ℕ) (k place : ℕ) (h : Polynomial E) (before after : List (Polynomial E)) → k < length places → place ≡ get_or places k place → h ≡ element_at hs place
+    → before ≡ map (element_at hs) (take k places) → after ≡ before ++ h ∷ [] → after ≡ map (element_at hs) (take (k + 1) places)
+elements-more hs places k place h before after low is at so_far put =
+    put ∙ ap₂ (λ (r : List (Polynomial _)) (x : Polynomial _). r ++ x ∷ []) so_far (at ∙ ap (element_at hs) is)
+    ∙ sym (ap (map (element_at hs)) (take_more places k place low) ∙ map-append (element_at hs) (take k places) (get_or places k place ∷ []))

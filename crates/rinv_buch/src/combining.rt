@@ -163,10 +163,10 @@ fn rest_cofactors<F: Field, O: MonoOrder>(
     let right = multiplier_of(ring, alloc, g, f, order)?;
     let s = s_polynomial_of(ring, alloc, f, g, order)?;
     let division = divide_wholly(ring, alloc, &s, polys, divisors, order)?;
-    let quotients = &division.quotients;
     let mut cofactors = Vec::with_capacity(alloc, count)?;
     'places: for place in 0..count {
         let (a, b) = (&lists[first][place], &lists[second][place]);
+        let quotients = &division.quotients;
         let cofactor = cofactor_at(ring, alloc, &left, a, &right, b, quotients, lists, place)?;
         cofactors.push(cofactor)?;
     }
