@@ -5,7 +5,7 @@ ghost use Rattle.rinv_algebra.specs.Normal.{IsNormal};
 ghost use Rattle.rinv_algebra.specs.Residue.{residue_ops};
 ghost use Rattle.rinv_buch.specs.Spent.{IsKept};
 
-use crate::tables::{Terms, are_lists, nonzero};
+use crate::tables::{Term, are_lists, nonzero};
 use rinv_buch::{Basis, EntryKind, Stop, Why, basis, combinations, interreduce};
 use rinv_div::Budget;
 use rinv_mono::Grevlex;
@@ -15,14 +15,12 @@ use std::alloc::Global;
 use std::test::Fail;
 
 // x^2 - 1 and x*y - 1, and their reduced basis, x - y and y^2 - 1.
-const LOW: &[&Terms] = &[&[(1, 2, 0), (100, 0, 0)], &[(1, 1, 1), (100, 0, 0)]];
-const REDUCED: &[&Terms] = &[&[(1, 1, 0), (100, 0, 1)], &[(1, 0, 2), (100, 0, 0)]];
+const LOW: &[&[Term]] = &[&[(1, 2, 0), (100, 0, 0)], &[(1, 1, 1), (100, 0, 0)]];
+
+const REDUCED: &[&[Term]] = &[&[(1, 1, 0), (100, 0, 1)], &[(1, 0, 2), (100, 0, 0)]];
 
 // x^6000 - 1 and y^6000 - 1.
-const HIGH: &[&Terms] = &[
-    &[(1, 6000, 0), (100, 0, 0)],
-    &[(1, 0, 6000), (100, 0, 0)],
-];
+const HIGH: &[&[Term]] = &[&[(1, 6000, 0), (100, 0, 0)], &[(1, 0, 6000), (100, 0, 0)]];
 
 // How a run ends.
 #[derive(Clone, Copy, Debug, PartialEq, Eq)]
@@ -35,7 +33,7 @@ enum End {
 }
 
 // What is given and the limits on pairs and steps, none for a run without end; how the run ends, and the number of entries in its journal.
-const ENDS: &[(&[&Terms], Option<(u32, u64)>, End, usize)] = &[
+const ENDS: &[(&[&[Term]], Option<(u32, u64)>, End, usize)] = &[
     (LOW, Some((0, 10)), End::Pairs(0, 1), 0),
     (LOW, Some((1, 10)), End::Pairs(0, 2), 1),
     (LOW, Some((10, 0)), End::Steps, 1),
@@ -63,7 +61,7 @@ fn budget_of(limits: Option<(u32, u64)>) -> Budget
 fn run(
     alloc: Global,
     ring: &PolyRing<Gf>,
-    lists: &[&Terms],
+    lists: &[&[Term]],
     budget: &mut Budget,
 ) -> Result<Basis<Gf>, Stop<Gf>>
     requires vars { ring.now.vars ≡ 2 }
@@ -88,7 +86,7 @@ fn end_for(why: &Why) -> End {
 fn end_of(
     alloc: Global,
     ring: &PolyRing<Gf>,
-    lists: &[&Terms],
+    lists: &[&[Term]],
     limits: Option<(u32, u64)>,
 ) -> (End, usize)
     requires vars { ring.now.vars ≡ 2 }
@@ -102,7 +100,7 @@ fn end_of(
 }
 
 // Whether the run spends a pair on each entry of its journal, the first of which adds the third element.
-fn spends_and_adds(alloc: Global, ring: &PolyRing<Gf>, lists: &[&Terms]) -> bool
+fn spends_and_adds(alloc: Global, ring: &PolyRing<Gf>, lists: &[&[Term]]) -> bool
     requires vars { ring.now.vars ≡ 2 }
 {
     let mut spent = budget_of(Some((10, 10)));
@@ -122,7 +120,7 @@ fn spends_and_adds(alloc: Global, ring: &PolyRing<Gf>, lists: &[&Terms]) -> bool
 fn reduced_basis(
     alloc: Global,
     ring: &PolyRing<Gf>,
-    lists: &[&Terms],
+    lists: &[&[Term]],
 ) -> Result<Vec<KPoly>, RingFault>
     requires vars { ring.now.vars ≡ 2 }
 {
@@ -157,7 +155,7 @@ fn combines(
 }
 
 // Whether the run adds an element, and each element is the combination of the polynomials given by its cofactors.
-fn all_combine(alloc: Global, ring: &PolyRing<Gf>, lists: &[&Terms]) -> Result<bool, RingFault>
+fn all_combine(alloc: Global, ring: &PolyRing<Gf>, lists: &[&[Term]]) -> Result<bool, RingFault>
     requires vars { ring.now.vars ≡ 2 }
 {
     let given = nonzero(alloc, ring, lists)?;

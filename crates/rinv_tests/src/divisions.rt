@@ -7,7 +7,7 @@ ghost use Rattle.rinv_algebra.specs.Leading.{leading_coefficient};
 ghost use Rattle.rinv_algebra.specs.Normal.{IsNormal};
 ghost use Rattle.rinv_div.specs.Budgets.{IsWithin};
 
-use crate::tables::{Terms, are_lists, is_list, nonzero, polynomial};
+use crate::tables::{Term, are_lists, is_list, nonzero, polynomial};
 use rinv_div::{Budget, DivStop, Division, divide, divide_monic};
 use rinv_mono::{Blocks, Grevlex, Mono, MonoOrder};
 use rinv_poly::{Poly, PolyRing};
@@ -16,7 +16,7 @@ use std::alloc::Global;
 use std::test::Fail;
 
 // The modulus, the dividend, the divisors and the steps that are given; the quotients, the rest and the steps that are spent.
-const DIVIDED: &[(u64, &Terms, &[&Terms], u64, &[&Terms], &Terms, u64)] = &[
+const DIVIDED: &[(u64, &[Term], &[&[Term]], u64, &[&[Term]], &[Term], u64)] = &[
     (
         7,
         &[(1, 2, 1), (1, 1, 2), (1, 0, 2)],
@@ -38,7 +38,7 @@ const DIVIDED: &[(u64, &Terms, &[&Terms], u64, &[&Terms], &Terms, u64)] = &[
 ];
 
 // The modulus, the dividend, the divisors and the steps that are given, which are too few; what is left when they are spent.
-const HALTED: &[(u64, &Terms, &[&Terms], u64, &Terms)] = &[
+const HALTED: &[(u64, &[Term], &[&[Term]], u64, &[Term])] = &[
     (
         7,
         &[(1, 2, 1), (1, 1, 2), (1, 0, 2)],
@@ -56,8 +56,9 @@ const HALTED: &[(u64, &Terms, &[&Terms], u64, &Terms)] = &[
 ];
 
 // x^6000*y^4000, and x + y^9000.
-const HIGH: &Terms = &[(1, 6000, 4000)];
-const HIGHER: &[&Terms] = &[&[(1, 1, 0), (1, 0, 9000)]];
+const HIGH: &[Term] = &[(1, 6000, 4000)];
+
+const HIGHER: &[&[Term]] = &[&[(1, 1, 0), (1, 0, 9000)]];
 
 // A budget of so many steps.
 fn of_steps(steps: u64) -> Budget
@@ -76,8 +77,8 @@ fn of_steps(steps: u64) -> Budget
 fn divided<O: MonoOrder>(
     alloc: Global,
     ring: &PolyRing<Gf>,
-    f: &Terms,
-    divisors: &[&Terms],
+    f: &[Term],
+    divisors: &[&[Term]],
     order: &O,
     steps: &mut Budget,
 ) -> Result<Division<Gf>, DivStop<Gf>>
@@ -98,11 +99,11 @@ fn divided<O: MonoOrder>(
 fn divides_so(
     alloc: Global,
     ring: &PolyRing<Gf>,
-    f: &Terms,
-    divisors: &[&Terms],
+    f: &[Term],
+    divisors: &[&[Term]],
     given: u64,
-    quotients: &[&Terms],
-    rest: &Terms,
+    quotients: &[&[Term]],
+    rest: &[Term],
     spent: u64,
 ) -> bool
     requires vars { ring.now.vars ≡ 2 }
@@ -122,10 +123,10 @@ fn divides_so(
 fn halts_so(
     alloc: Global,
     ring: &PolyRing<Gf>,
-    f: &Terms,
-    divisors: &[&Terms],
+    f: &[Term],
+    divisors: &[&[Term]],
     given: u64,
-    left: &Terms,
+    left: &[Term],
 ) -> bool
     requires vars { ring.now.vars ≡ 2 }
 {
@@ -156,10 +157,12 @@ fn stops_at(
                 right,
                 working,
             },
-        ) => Ok(left == of_multiplier
-            && right == of_monomial
-            && steps.steps_spent == 0
-            && is_list(ring, &working, HIGH)),
+        ) => Ok(
+            left == of_multiplier
+                && right == of_monomial
+                && steps.steps_spent == 0
+                && is_list(ring, &working, HIGH),
+        ),
         _ => Ok(false),
     }
 }
@@ -168,7 +171,18 @@ fn stops_at(
 fn divides(rt: HostRuntime) -> Result<(), Fail> {
     for (modulus, f, divisors, given, quotients, rest, spent) in DIVIDED {
         let ring = PolyRing::new(Gf::new(*modulus)?, 2);
-        assert!(rt; divides_so(rt.alloc(), &ring, f, divisors, *given, quotients, rest, *spent));
+        assert!(rt;
+            divides_so(
+                rt.alloc(),
+                &ring,
+                f,
+                divisors,
+                *given,
+                quotients,
+                rest,
+                *spent
+            )
+        );
     }
     Ok(())
 }

@@ -10,14 +10,14 @@ use rinv_poly::{KPoly, PolyRing};
 use rinv_ring::{Gf, Ring, RingFault};
 use std::alloc::Global;
 
-// The terms c*x^a*y^b, as (c, a, b).
-pub(crate) type Terms = [(u32, u32, u32)];
+// The term c*x^a*y^b, as (c, a, b).
+pub(crate) type Term = (u32, u32, u32);
 
 // The sum of the terms.
 pub(crate) fn polynomial(
     alloc: Global,
     ring: &PolyRing<Gf>,
-    list: &Terms,
+    list: &[Term],
 ) -> Result<KPoly, RingFault>
     requires vars { ring.now.vars ≡ 2 }
     ensures { IfOk result (IsNormal (residue_ops ring.now.coeffs) (λ c. nat_lt c ring.now.coeffs) ring.now.vars) }
@@ -36,7 +36,7 @@ pub(crate) fn polynomial(
 pub(crate) fn nonzero(
     alloc: Global,
     ring: &PolyRing<Gf>,
-    lists: &[&Terms],
+    lists: &[&[Term]],
 ) -> Result<Vec<KPoly>, RingFault>
     requires vars { ring.now.vars ≡ 2 }
     ensures elements { IfOk result (λ hs. All (IsNormal (residue_ops ring.now.coeffs) (λ c. nat_lt c ring.now.coeffs) ring.now.vars) hs.items) }
@@ -53,7 +53,7 @@ pub(crate) fn nonzero(
 }
 
 // Whether these are the terms, in this order.
-pub(crate) fn is_list(ring: &PolyRing<Gf>, f: &KPoly, list: &Terms) -> bool {
+pub(crate) fn is_list(ring: &PolyRing<Gf>, f: &KPoly, list: &[Term]) -> bool {
     if ring.len(f) as usize != list.len() {
         return false;
     }
@@ -67,7 +67,7 @@ pub(crate) fn is_list(ring: &PolyRing<Gf>, f: &KPoly, list: &Terms) -> bool {
 }
 
 // Whether these are the terms of the polynomials, one after the other.
-pub(crate) fn are_lists(ring: &PolyRing<Gf>, fs: &[KPoly], lists: &[&Terms]) -> bool {
+pub(crate) fn are_lists(ring: &PolyRing<Gf>, fs: &[KPoly], lists: &[&[Term]]) -> bool {
     if fs.len() != lists.len() {
         return false;
     }
