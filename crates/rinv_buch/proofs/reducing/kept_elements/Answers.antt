@@ -1,4 +1,4 @@
-use Rattle.std.proofs.Common.{◌≡◌, ◌<◌, ◌≤◌, ◌∙◌, [], ap, arith, length, map}
+use Rattle.std.proofs.Common.{◌<◌, ◌≤◌, ◌∙◌, [], ap, arith, length, map}
 use Rattle.std.proofs.lemmas.List.{get_or_read, take_all}
 use Rattle.rinv_buch.proofs.KeptPlaces.{element_at, elements-more}
 use Rattle.rinv_buch.proofs.reducing.kept_elements.Goals as goal

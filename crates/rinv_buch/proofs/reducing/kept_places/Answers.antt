@@ -1,8 +1,6 @@
 use Rattle.std.proofs.Common.{◌≡◌, ◌<◌, ◌∙◌, ℕ, List, sym, ap, subst, arith, map, All, length}
 use Rattle.std.proofs.lemmas.List.{take_all}
-use Rattle.rinv_algebra.specs.Polynomial.{Polynomial}
 use Rattle.rinv_algebra.specs.Leading.{leading_monomial}
-use Rattle.rinv_groebner.specs.Reduced.{kept}
 use Rattle.rinv_buch.specs.Reducing.{is_kept_place}
 use Rattle.rinv_buch.proofs.KeptPlaces.{element_at, place-kept, place-past, places-end, kept-at_places, kept_places-inside}
 use Rattle.rinv_buch.proofs.reducing.kept_places.Goals as goal
