@@ -9,7 +9,7 @@ use Rattle.std.specs.List.{range_with_len, AllZip}
 use Rattle.std.specs.declared.cmp.Ordering.{Ordering}
 use Rattle.std.proofs.lemmas.List.{get_or-map, get_or_append_left, get_or_push, take_more, length-take-le, length-map, map-append}
 use Rattle.std.proofs.lemmas.Bool.{cases_lt}
-use Rattle.std.proofs.lemmas.List.FromFn.{filter_of_map_range_with_len_more, length-map-range_with_len}
+use Rattle.std.proofs.lemmas.List.FromFn.{length-map-range_with_len}
 use Rattle.std.proofs.lemmas.List.Elements.{AllZip-push, length_all_zip, All-head, All-tail}
 use Rattle.rinv_algebra.specs.Ring.{RingOps, RingLaws, IsSame}
 use Rattle.rinv_algebra.specs.Polynomial.{Polynomial, poly_ops, product, is_zero, term_product, difference}
@@ -29,6 +29,7 @@ use Rattle.rinv_poly.proofs.Summands.{sum_of-push}
 use Rattle.rinv_div.specs.Stops.{Divides, ProductMeets, StepsMeet}
 use Rattle.rinv_buch.specs.Combining.{AreCofactors, ColumnMeets, RestMeets, SumMeets, cofactor, column, combined, nonzero_places, unit}
 use Rattle.rinv_buch.specs.Runs.{s_at}
+use Rattle.rinv_buch.proofs.KeptPlaces.{places-more}
 use Rattle.rinv_buch.proofs.PairDivision.{element-at, steps-same}
 use Rattle.rinv_buch.proofs.TermMultiples.{multiple-value, multiple-meets}
 
@@ -63,10 +64,6 @@ each-more R d xs x n long all here m low = elim (cases_lt m n) [
 pub column-number : {E W : Type 0} (view : W → List (Polynomial E)) (qs : List (Polynomial E)) (lists : List W) (m : ℕ) → length qs ≡ length lists → length qs ≡ length (column (map view lists) m)
 column-number view qs lists m many = many ∙ sym (length-map lists view) ∙ sym (length-map (map view lists) (λ us. get_or us m []))
 
-itself : {X : Type 0} (xs : List X) → map (λ x. x) xs ≡ xs
-itself [] = refl
-itself (x ∷ xs) = ap (λ ys. x ∷ ys) (itself xs)
-
 module _ {E : Type 0} (o : RingOps E) (l : RingLaws o) where
   -- a division depends on the coefficients of the dividend alone
   divides-same : (cmp : List ℕ → List ℕ → Ordering) (hs : List (Polynomial E)) (s t : Polynomial E) → IsSame (poly_ops o) s t → (qs : List (Polynomial E)) (rest : Polynomial E) (steps : List (Step E)) → Divides o cmp hs s qs rest steps → Divides o cmp hs t qs rest steps
@@ -76,8 +73,8 @@ module _ {E : Type 0} (o : RingOps E) (l : RingLaws o) where
   }
 
   -- there is a quotient for each element
-  pub quotients-number : (cmp : List ℕ → List ℕ → Ordering) (hs : List (Polynomial E)) (s : Polynomial E) (qs : List (Polynomial E)) → (rest : Polynomial E) × (steps : List (Step E)) × Divides o cmp hs s qs rest steps → length qs ≡ length hs
-  quotients-number cmp hs s qs (rest, steps, d) = length_all_zip (IsSame (poly_ops o)) qs (quotients (length hs) steps) d.quotients ∙ length-map-range_with_len (quotient_at steps) 0 (length hs)
+  pub quotients-number : (cmp : List ℕ → List ℕ → Ordering) (hs : List (Polynomial E)) (s : Polynomial E) (qs : List (Polynomial E)) (rest : Polynomial E) → (steps : List (Step E)) × Divides o cmp hs s qs rest steps → length qs ≡ length hs
+  quotients-number cmp hs s qs rest (steps, d) = length_all_zip (IsSame (poly_ops o)) qs (quotients (length hs) steps) d.quotients ∙ length-map-range_with_len (quotient_at steps) 0 (length hs)
 
   -- the sum over a column, one product more
   pub column-more : (qs cs : List (Polynomial E)) (k : ℕ) (q c : Polynomial E) (products : List (Polynomial E)) (r : Polynomial E) → k < length qs → length qs ≡ length cs → q ≡ get_or qs k q → c ≡ get_or cs k []
@@ -151,10 +148,10 @@ module _ {E : Type 0} (o : RingOps E) (l : RingLaws o) where
         facts.then (poly_ops o) p same (facts.add2 (poly_ops o) p (facts.add2 (poly_ops o) p one (p.neg_same (product o right b) (term_product o second (cofactor lists j m)) two)) (p.same_refl ((poly_ops o).neg (combination o qs (column lists m)))))
 
     -- the degrees that it meets
-    pub combined-meets : (high : RingOp → E → E → ℕ → ℕ → Type 0) (s : Polynomial E) → IsSame (poly_ops o) s (s_at o cmp list i j) → (qs : List (Polynomial E)) → (rest : Polynomial E) × (steps : List (Step E)) × Divides o cmp list s qs rest steps → (m : ℕ) (a b : Polynomial E) → a ≡ cofactor lists i m → b ≡ cofactor lists j m
+    pub combined-meets : (high : RingOp → E → E → ℕ → ℕ → Type 0) (s : Polynomial E) → IsSame (poly_ops o) s (s_at o cmp list i j) → (qs : List (Polynomial E)) (rest : Polynomial E) → (steps : List (Step E)) × Divides o cmp list s qs rest steps → (m : ℕ) (a b : Polynomial E) → a ≡ cofactor lists i m → b ≡ cofactor lists j m
         → (fault : RingFault) → DegreesMeet (SumMeets o high left a right b qs lists m) fault
         → DegreesMeet (RestMeets o cmp high list lists i j) fault
-    combined-meets high s is_s qs (rest, steps, d) m a b at_a at_b fault meets =
+    combined-meets high s is_s qs rest (steps, d) m a b at_a at_b fault meets =
         let first = multiplier o cmp (get_or list i []) (get_or list j []) in
         let second = multiplier o cmp (get_or list j []) (get_or list i []) in
         meet-weaker (SumMeets o high left a right b qs lists m) (RestMeets o cmp high list lists i j)
@@ -178,31 +175,26 @@ module _ {E : Type 0} (o : RingOps E) (l : RingLaws o) where
         (λ x y m. RestMeets.in_division (record { steps = m.steps; working = m.working; by_steps = steps-same o cmp l list s (s_at o cmp list i j) is_s m.steps m.working m.by_steps; meets = m.meets })) fault meets
 
     -- the cofactors of a rest
-    pub are-cofactors : (n : ℕ) (qs us : List (Polynomial E)) → (rest : Polynomial E) × (steps : List (Step E)) × Divides o cmp list s qs rest steps → length us ≡ n → ((m : ℕ) → m < n → IsSame (poly_ops o) (get_or us m []) (combined o cmp list lists i j qs m)) → (rest : Polynomial E) × AreCofactors o cmp n list lists i j rest us
-    are-cofactors n qs us (rest, steps, d) number each = (rest, record { steps = steps; quotients = qs; divides = divides-same cmp list s (s_at o cmp list i j) is_s qs rest steps d; number = number; each = each })
+    pub are-cofactors : (n : ℕ) (qs us : List (Polynomial E)) (rest : Polynomial E) → (steps : List (Step E)) × Divides o cmp list s qs rest steps → length us ≡ n → ((m : ℕ) → m < n → IsSame (poly_ops o) (get_or us m []) (combined o cmp list lists i j qs m)) → (rest : Polynomial E) × AreCofactors o cmp n list lists i j rest us
+    are-cofactors n qs us rest (steps, d) number each = (rest, record { steps = steps; quotients = qs; divides = divides-same cmp list s (s_at o cmp list i j) is_s qs rest steps d; number = number; each = each })
 
 module _ {E : Type 0} (o : RingOps E) (fs : List (Polynomial E)) (k : ℕ) (f : Polynomial E) (at : f ≡ get_or fs k []) where
   passes : ℕ → Bool
   passes k = not (is_zero o (get_or fs k []))
 
-  places-more : filter passes (range_with_len 0 (k + 1)) ≡ filter passes (range_with_len 0 k) ++ cond (passes k) (k ∷ []) []
-  unfolding passes
-  places-more =
-      ap (filter passes) (sym (itself (range_with_len 0 (k + 1)))) ∙ filter_of_map_range_with_len_more passes (λ x. x) 0 k k (omega arith) ∙ ap (λ (ks : List ℕ). filter passes ks ++ cond (passes k) (k ∷ []) []) (itself (range_with_len 0 k))
-
   -- one place more, of a polynomial that is not zero
   pub units-more : (n : ℕ) (us : List (Polynomial E)) (before after : List (List (Polynomial E))) → is_zero o f ≡ false → after ≡ before ++ us ∷ [] → AreSame o us (unit o n k) → AllZip (AreSame o) before (map (unit o n) (nonzero_places o fs k))
       → AllZip (AreSame o) after (map (unit o n) (nonzero_places o fs (k + 1)))
-  unfolding passes places-more
+  unfolding passes
   units-more n us before after off is same all =
       subst₂ (AllZip (AreSame o)) (sym is)
-      (sym (ap (map (unit o n)) (places-more ∙ ap (λ (g : Polynomial E). filter passes (range_with_len 0 k) ++ cond (not (is_zero o g)) (k ∷ []) []) (sym at) ∙ rw off refl) ∙ map-append (unit o n) (filter passes (range_with_len 0 k)) (k ∷ [])))
+      (sym (ap (map (unit o n)) (places-more passes k ∙ ap (λ (g : Polynomial E). filter passes (range_with_len 0 k) ++ cond (not (is_zero o g)) (k ∷ []) []) (sym at) ∙ rw off refl) ∙ map-append (unit o n) (filter passes (range_with_len 0 k)) (k ∷ [])))
       (AllZip-push (AreSame o) before (map (unit o n) (filter passes (range_with_len 0 k))) us (unit o n k) all same)
 
   -- and of one that is
   pub units-same : is_zero o f ≡ true → nonzero_places o fs (k + 1) ≡ nonzero_places o fs k
-  unfolding passes places-more
-  units-same on = places-more ∙ ap (λ (g : Polynomial E). filter passes (range_with_len 0 k) ++ cond (not (is_zero o g)) (k ∷ []) []) (sym at) ∙ rw on (append-nil (filter passes (range_with_len 0 k)))
+  unfolding passes
+  units-same on = places-more passes k ∙ ap (λ (g : Polynomial E). filter passes (range_with_len 0 k) ++ cond (not (is_zero o g)) (k ∷ []) []) (sym at) ∙ rw on (append-nil (filter passes (range_with_len 0 k)))
 
 module _ {E : Type 0} (o : RingOps E) where
   zeros-same : (us : List (Polynomial E)) (n : ℕ) → length us ≡ n → All (λ u. IsSame (poly_ops o) u []) us → AreSame o us (replicate n [])

@@ -3,14 +3,14 @@
 --   combination-total    a combination is such a sum
 --   rest-sums            what an entry adds
 --   combines-sums        all elements
-use Rattle.std.proofs.Common.{◌≡◌, ℕ, zero, suc, ◌+◌, ◌<◌, Bool, true, false, not, cond, List, [], ◌∷◌, ◌++◌, length, get_or, set, replicate, map, filter, All, refl, sym, ◌∙◌, ap, ap₂, subst, arith, append-nil}
+use Rattle.std.proofs.Common.{◌≡◌, ℕ, zero, suc, ◌+◌, ◌<◌, Bool, true, false, not, cond, List, [], ◌∷◌, ◌++◌, length, get_or, replicate, map, filter, All, refl, sym, ◌∙◌, ap, ap₂, subst, arith, append-nil}
 use Rattle.std.specs.List.{range_with_len, AllZip}
 use Rattle.std.specs.declared.cmp.Ordering.{Ordering}
 use Rattle.std.proofs.lemmas.List.{get_or-map, length-map, map-append}
 use Rattle.std.proofs.lemmas.List.FromFn.{fill_by_all, get_or-range_with_len, length-range_with_len}
 use Rattle.std.proofs.lemmas.List.Elements.{AllZip-push, length_all_zip, All-head, All-tail, All-filter, All-from_get_or}
 use Rattle.rinv_algebra.specs.Ring.{RingOps, RingLaws, IsSame}
-use Rattle.rinv_algebra.specs.Polynomial.{Polynomial, poly_ops, product, is_zero, term_product, difference}
+use Rattle.rinv_algebra.specs.Polynomial.{Polynomial, poly_ops, product, is_zero}
 use Rattle.rinv_algebra.specs.Ideal.{combination}
 use Rattle.rinv_algebra.specs.Leading.{multiplier, s_polynomial}
 use Rattle.rinv_algebra.proofs.PolynomialLaws.{poly_laws}
@@ -22,11 +22,10 @@ use Rattle.rinv_theory.proofs.Monoid.{monomial}
 use Rattle.rinv_theory.proofs.Polynomials.{poly_ring, term_at}
 use Rattle.rinv_theory.proofs.Members.{combination-cons}
 use Rattle.rinv_groebner.specs.Division.{AreSame}
-use Rattle.rinv_groebner.specs.Journal.{Entry, IsEntry, Journal, nonzeros}
+use Rattle.rinv_groebner.specs.Journal.{Entry, nonzeros}
 use Rattle.rinv_groebner.proofs.JournalUnique.{same_trans}
 use Rattle.rinv_groebner.proofs.StepClasses.{class-difference, class-term_product}
 use Rattle.rinv_groebner.proofs.UniqueSteps.{same-at}
-use Rattle.rinv_div.specs.Stops.{Divides}
 use Rattle.rinv_div.proofs.Summed.{combination-same, identity}
 use Rattle.rinv_buch.specs.Combining.{AreCofactors, Combines, cofactor, column, combined, nonzero_places, unit, units}
 use Rattle.rinv_buch.specs.Runs.{s_at}

@@ -5,7 +5,7 @@
 --   IsCombined           the cofactors after the first k entries
 --   combined-begin, combined-stay, combined-add, combined-end    the beginning, an entry, and the end
 --   combining-meets      degrees that an entry meets
-use Rattle.std.proofs.Common.{◌≡◌, ℕ, ◌+◌, ◌<◌, ◌≤◌, Bool, true, false, List, [], ◌∷◌, ◌++◌, length, length-append, append-nil, append_assoc, get_or, take, drop, All, refl, sym, ◌∙◌, ap, ap₂, subst, subst₂, arith, IsTrue, true≢false}
+use Rattle.std.proofs.Common.{◌≡◌, ℕ, ◌+◌, ◌<◌, ◌≤◌, true, false, List, [], ◌∷◌, ◌++◌, length, length-append, append-nil, append_assoc, get_or, take, drop, All, refl, sym, ◌∙◌, ap, subst, subst₂, arith, true≢false}
 use Rattle.std.specs.Prelude.{IsFalse, Some, None}
 use Rattle.std.specs.List.{AllZip}
 use Rattle.std.specs.declared.cmp.Ordering.{Ordering}

@@ -30,6 +30,7 @@ use Rattle.rinv_groebner.proofs.MembersOfLists.{member_generator}
 use Rattle.rinv_groebner.proofs.MonomialLists.{divides-divisor, divisor-divides}
 use Rattle.rinv_groebner.proofs.Remainders.{AreSpread, IsRemainder, remainder}
 use Rattle.rinv_poly.proofs.Forms.{IsNormalTerm, ordered-from_normal}
+use Rattle.rinv_div.specs.Stops.{Divides}
 use Rattle.rinv_buch.specs.Reducing.{AreLeadsApart}
 
 -- no leading monomial of a kept element divides that of another
@@ -40,10 +41,11 @@ kept-leads_apart o cmp hs i j ii jj differ = go (divides (leading_monomial o cmp
     go false e = refl
     go true e = absurd (kept-apart o cmp hs i j ii jj differ (divides-divisor _ _ e))
 
-module _ {E : Type 0} (o : RingOps E) (cmp : List ℕ → List ℕ → Ordering) (hs others : List (Polynomial E)) (k : ℕ) (f rest : Polynomial E) (removed : others ≡ remove hs k) (taken : f ≡ get_or hs k []) (found : (steps : List (Step E)) × IsDivision o cmp others f steps rest) where
+module _ {E : Type 0} (o : RingOps E) (cmp : List ℕ → List ℕ → Ordering) (hs others : List (Polynomial E)) (k : ℕ) (f : Polynomial E) (qs : List (Polynomial E)) (rest : Polynomial E) (removed : others ≡ remove hs k) (taken : f ≡ get_or hs k [])
+    (found : (steps : List (Step E)) × Divides o cmp others f qs rest steps) where
   -- a division of the element taken out by the others
   pub division-at : (steps : List (Step E)) × IsDivision o cmp (remove hs k) (get_or hs k []) steps rest
-  division-at = (found.0, subst₂ (λ (hs : List (Polynomial E)) (f : Polynomial E). IsDivision o cmp hs f found.0 rest) removed taken found.1)
+  division-at = (found.0, subst₂ (λ (hs : List (Polynomial E)) (f : Polynomial E). IsDivision o cmp hs f found.0 rest) removed taken found.1.is_division)
 
   -- what it leaves, made monic, is made of the element
   pub made-at : (g : Polynomial E) → IsMonicOf o cmp rest g → IsMadeAt o cmp hs k g

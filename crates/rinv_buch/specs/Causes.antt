@@ -1,10 +1,10 @@
 -- Why Buchberger's algorithm halts.
-use Rattle.std.specs.Prelude.{◌≡◌, ℕ, ◌+◌, ◌<◌, ◌⊎◌, false, List, [], get_or, IsTrue, ⊤}
+use Rattle.std.specs.Prelude.{◌≡◌, ℕ, ◌<◌, ◌⊎◌, false, List, [], get_or, IsTrue, ⊤}
 use Rattle.std.specs.declared.cmp.Ordering.{Ordering}
 use Rattle.rinv_algebra.specs.Ring.{RingOps}
 use Rattle.rinv_algebra.specs.Monomial.{total_degree, max_degree}
 use Rattle.rinv_algebra.specs.Polynomial.{Polynomial, has_monomial, is_zero}
-use Rattle.rinv_algebra.specs.Leading.{multiplier, s_polynomial}
+use Rattle.rinv_algebra.specs.Leading.{multiplier}
 use Rattle.rinv_groebner.specs.Division.{is_reducible}
 use Rattle.rinv_groebner.specs.Settled.{lead_at, lcm_at, AreCoprime}
 use Rattle.rinv_groebner.specs.Journal.{Entry, IsOpen, Journal, IsAtWork}

@@ -1,5 +1,5 @@
 -- What Buchberger's algorithm answers, made of numbers, lists and plain records.
-use Rattle.std.specs.Prelude.{ℕ, List, map}
+use Rattle.std.specs.Prelude.{List, map}
 use Rattle.rinv_algebra.specs.Polynomial.{Polynomial}
 use Rattle.rinv_groebner.specs.Journal.{Entry, Kind}
 use Rattle.rinv_groebner.specs.Journal.Kind.{reduced, coprime, chain}

@@ -1,5 +1,5 @@
 -- What becomes of a pair, and a run of the algorithm between two pairs.
-use Rattle.std.specs.Prelude.{◌≡◌, ℕ, suc, ◌<◌, ◌≤◌, ◌⊎◌, Bool, true, false, List, [], ◌∷◌, ◌++◌, length, get_or, IsTrue, IsFalse, ⊤}
+use Rattle.std.specs.Prelude.{◌≡◌, ℕ, ◌<◌, ◌≤◌, ◌⊎◌, Bool, true, false, List, [], ◌∷◌, ◌++◌, length, get_or, IsTrue, IsFalse, ⊤}
 use Rattle.std.specs.declared.cmp.Ordering.{Ordering}
 use Rattle.rinv_algebra.specs.Ring.{RingOps}
 use Rattle.rinv_algebra.specs.Polynomial.{Polynomial, is_zero}
@@ -9,7 +9,6 @@ use Rattle.rinv_groebner.specs.Division.{IsIrreducible}
 use Rattle.rinv_groebner.specs.Settled.{AreCoprime, lcm_at}
 use Rattle.rinv_groebner.specs.Journal.{Entry, Journal, IsOpen, IsEntry, LeavesRest, pairs_of}
 use Rattle.rinv_ring.specs.Operation.{RingOp}
-use Rattle.rinv_pairs.specs.Pairs.{Pairs}
 use Rattle.rinv_div.specs.declared.budget.Budget.{Budget}
 use Rattle.rinv_div.specs.Budgets.{Spends}
 use Rattle.rinv_div.specs.Stops.{RunsOut, MeetsDegree}
@@ -19,7 +18,6 @@ use Rattle.rinv_buch.specs.declared.run.Run.{Run}
 use Rattle.rinv_buch.specs.Kinds.{journal_of}
 use Rattle.rinv_buch.specs.Causes.{SPolynomialMeets}
 use Rattle.rinv_buch.specs.Elements.{ArePrepared}
-use Rattle.rinv_buch.specs.Spent.{SpendsOn, IsKept}
 
 -- the rest of a pair has a property
 abbrev pub SettlesWith : {R E : Type 0} → (Polynomial E → Type 0) → Outcome R E → Type 0

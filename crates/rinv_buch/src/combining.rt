@@ -18,7 +18,7 @@ ghost use Rattle.rinv_buch.specs.Combining.{AreCofactors, ColumnMeets, Combines,
 
 use crate::kinds::{Basis, Entry, EntryKind};
 use crate::s_polynomial::{leading_term, s_polynomial_of};
-use rinv_div::{Budget, DivStop, Divisors, divide_by};
+use rinv_div::{Divisors, divide_wholly};
 use rinv_mono::{Mono, MonoFault, MonoOrder};
 use rinv_poly::{Poly, PolyRing};
 use rinv_ring::{Field, NoMemory, Ring, RingFault};
@@ -162,11 +162,12 @@ fn rest_cofactors<F: Field, O: MonoOrder>(
     let left = multiplier_of(ring, alloc, f, g, order)?;
     let right = multiplier_of(ring, alloc, g, f, order)?;
     let s = s_polynomial_of(ring, alloc, f, g, order)?;
-    let quotients = quotients_of(ring, alloc, &s, polys, divisors, order)?;
+    let division = divide_wholly(ring, alloc, &s, polys, divisors, order)?;
     let mut cofactors = Vec::with_capacity(alloc, count)?;
     'places: for place in 0..count {
         let (a, b) = (&lists[first][place], &lists[second][place]);
-        let cofactor = cofactor_at(ring, alloc, &left, a, &right, b, &quotients, lists, place)?;
+        let quotients = &division.quotients;
+        let cofactor = cofactor_at(ring, alloc, &left, a, &right, b, quotients, lists, place)?;
         cofactors.push(cofactor)?;
     }
     Ok(cofactors)
@@ -231,31 +232,6 @@ fn degree_beyond(mono: &Mono, other: &Mono) -> u32
         degree += others[k].saturating_sub(own[k]);
     }
     degree
-}
-
-// The quotients of the division of the polynomial by the list.
-fn quotients_of<F: Field, O: MonoOrder>(
-    ring: &PolyRing<F>,
-    alloc: Global,
-    f: &Poly<F>,
-    polys: &[Poly<F>],
-    divisors: &Divisors<F>,
-    order: &O,
-) -> Result<Vec<Poly<F>>, RingFault>
-    requires dividend { IsNormal (F.ops ring.now.coeffs) (F.is_element ring.now.coeffs) ring.now.vars f.now }
-    requires suits { O.fits order.now ring.now.vars }
-    requires divisors { AreDivisors (F.ops ring.now.coeffs) (F.is_element ring.now.coeffs) ring.now.vars (O.cmp order.now) polys.now divisors.now.list.items }
-    ensures normal { IfOk result (λ qs. All (IsNormal (F.ops ring.now.coeffs) (F.is_element ring.now.coeffs) ring.now.vars) qs.items) }
-    ensures quotients { IfOk result (λ qs. (rest : Polynomial F.Elem) × (steps : List (Step F.Elem)) × Divides (F.ops ring.now.coeffs) (O.cmp order.now) polys.now f.now qs.items rest steps) }
-    ensures degree { IfErr result (DegreesMeet (StepsMeet (F.ops ring.now.coeffs) (O.cmp order.now) polys.now f.now (F.too_high ring.now.coeffs))) }
-{
-    let mut endless = Budget::without_end();
-    match divide_by(ring, alloc, f, polys, divisors, order, &mut endless) {
-        Ok(division) => Ok(division.quotients),
-        Err(DivStop::Degree { left, right, .. }) => Err(RingFault::Degree { left, right }),
-        Err(DivStop::NoMemory) => Err(RingFault::NoMemory),
-        Err(DivStop::Steps { .. }) => unreachable!(),
-    }
 }
 
 // The cofactor at a place: the multiples of two cofactors by the multipliers, the second taken from the first, less the quotients times the

@@ -16,6 +16,3 @@ pub use buchberger::basis;
 pub use combining::{combinations, sum_of_products};
 pub use kinds::{Basis, Entry, EntryKind, Halt, Stop, Why};
 pub use reducing::{interreduce, kept_places};
-
-#[cfg(test)]
-mod tests;

@@ -19,7 +19,7 @@ ghost use Rattle.rinv_buch.specs.Reducing.{MakingMeets, ReducingMeets, AreLeadsA
 use crate::elements::Elements;
 use crate::kinds::Basis;
 use crate::s_polynomial::leading_term;
-use rinv_div::{Budget, DivStop, Divisors, divide_by};
+use rinv_div::{Divisors, divide_wholly};
 use rinv_mono::{Mono, MonoOrder};
 use rinv_poly::{Poly, PolyRing};
 use rinv_ring::{Field, NoMemory, Ring, RingFault};
@@ -66,11 +66,21 @@ pub fn kept_places<F: Field, O: MonoOrder>(
     ensures inside { IfOk result (λ ks. All (λ k. k < length polys.now) ks.items) }
     ensures kept { IfOk result (λ ks. map (λ k. get_or polys.now k []) ks.items ≡ kept (F.ops ring.now.coeffs) (O.cmp order.now) polys.now) }
 {
-    // Never to land: stands for the loop while the crates above are proved.
-    Err(NoMemory)
+    let mut leads = Vec::with_capacity(alloc, polys.len())?;
+    for h in polys {
+        let (lead, _) = leading_term(ring, h, order);
+        leads.push(lead.copy(alloc)?)?;
+    }
+    let mut places = Vec::new(alloc);
+    'elements: for place in 0..polys.len() {
+        if is_kept(&leads, place) {
+            places.push(place)?;
+        }
+    }
+    Ok(places)
 }
 
-// Copies of the elements that are kept: no leading monomial properly divides theirs, and no earlier element has the same one.
+// Copies of the elements that are kept.
 fn kept_elements<F: Field, O: MonoOrder>(
     ring: &PolyRing<F>,
     alloc: Global,
@@ -83,17 +93,11 @@ fn kept_elements<F: Field, O: MonoOrder>(
     ensures prepared { IfOk result (ArePrepared (F.ops ring.now.coeffs) (F.is_element ring.now.coeffs) ring.now.vars (O.cmp order.now)) }
     ensures kept { IfOk result (λ es. es.polys.items ≡ kept (F.ops ring.now.coeffs) (O.cmp order.now) polys.now) }
 {
-    let mut leads = Vec::with_capacity(alloc, polys.len())?;
-    for h in polys {
-        let (lead, _) = leading_term(ring, h, order);
-        leads.push(lead.copy(alloc)?)?;
-    }
+    let places = kept_places(ring, alloc, polys, order)?;
     let mut kept = Elements::new(alloc);
-    'places: for place in 0..polys.len() {
-        if is_kept(&leads, place) {
-            let copy = ring.copy(alloc, &polys[place])?;
-            kept.push(ring, alloc, copy, order)?;
-        }
+    'places: for k in 0..places.len() {
+        let copy = ring.copy(alloc, &polys[places[k]])?;
+        kept.push(ring, alloc, copy, order)?;
     }
     Ok(kept)
 }
@@ -135,36 +139,11 @@ fn made_at<F: Field, O: MonoOrder>(
     let element = elements.polys.remove(place);
     let divisor = elements.divisors.remove(place);
     let (polys, divisors) = (&elements.polys, &elements.divisors);
-    let rest = rest_of(ring, alloc, &element, polys, divisors, order)?;
+    let division = divide_wholly(ring, alloc, &element, polys, divisors, order)?;
     elements.polys.insert(place, element)?;
     elements.divisors.insert(place, divisor)?;
-    let made = monic(ring, alloc, &rest, order)?;
+    let made = monic(ring, alloc, &division.rest, order)?;
     Ok(made)
-}
-
-// What division of the polynomial leaves.
-fn rest_of<F: Field, O: MonoOrder>(
-    ring: &PolyRing<F>,
-    alloc: Global,
-    f: &Poly<F>,
-    basis: &[Poly<F>],
-    divisors: &Divisors<F>,
-    order: &O,
-) -> Result<Poly<F>, RingFault>
-    requires dividend { IsNormal (F.ops ring.now.coeffs) (F.is_element ring.now.coeffs) ring.now.vars f.now }
-    requires suits { O.fits order.now ring.now.vars }
-    requires divisors { AreDivisors (F.ops ring.now.coeffs) (F.is_element ring.now.coeffs) ring.now.vars (O.cmp order.now) basis.now divisors.now.list.items }
-    ensures normal { IfOk result (IsNormal (F.ops ring.now.coeffs) (F.is_element ring.now.coeffs) ring.now.vars) }
-    ensures rest { IfOk result (λ r. (steps : List (Step F.Elem)) × IsDivision (F.ops ring.now.coeffs) (O.cmp order.now) basis.now f.now steps r) }
-    ensures degree { IfErr result (DegreesMeet (StepsMeet (F.ops ring.now.coeffs) (O.cmp order.now) basis.now f.now (F.too_high ring.now.coeffs))) }
-{
-    let mut endless = Budget::without_end();
-    match divide_by(ring, alloc, f, basis, divisors, order, &mut endless) {
-        Ok(division) => Ok(division.rest),
-        Err(DivStop::Degree { left, right, .. }) => Err(RingFault::Degree { left, right }),
-        Err(DivStop::NoMemory) => Err(RingFault::NoMemory),
-        Err(DivStop::Steps { .. }) => unreachable!(),
-    }
 }
 
 // The polynomial times the inverse of its leading coefficient.

@@ -10,8 +10,6 @@ mod replacing;
 mod sorting;
 mod step;
 mod stop;
-#[cfg(test)]
-mod tests;
 mod turning;
 
 pub use budget::Budget;

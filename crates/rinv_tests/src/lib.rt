@@ -2,6 +2,8 @@
 #![tactic(auto)]
 
 #[cfg(test)]
+mod bases;
+#[cfg(test)]
 mod checks;
 #[cfg(test)]
 mod divisions;
@@ -11,3 +13,5 @@ mod polynomials;
 mod readings;
 #[cfg(test)]
 mod signs;
+#[cfg(test)]
+mod tables;

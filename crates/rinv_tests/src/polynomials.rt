@@ -1,52 +1,14 @@
 //! Small tables over GF(7), and each call once over two rings.
 
-ghost use Rattle.std.specs.Prelude.{◌≡◌, IsTrue, IfOk, nat_lt};
+ghost use Rattle.std.specs.Prelude.{IsTrue};
 ghost use Rattle.rinv_algebra.specs.Normal.{IsNormal};
-ghost use Rattle.rinv_algebra.specs.Residue.{residue_ops};
 
+use crate::tables::{is_list, polynomial};
 use rinv_mono::{Blocks, Grevlex, Mono, MonoOrder};
-use rinv_poly::{KPoly, Poly, PolyRing};
+use rinv_poly::{Poly, PolyRing};
 use rinv_ring::{Field, Gf, Ring, RingFault};
 use std::alloc::Global;
 use std::test::Fail;
-
-// The sum of the terms c*x^a*y^b over GF(7).
-fn polynomial(
-    alloc: Global,
-    ring: &PolyRing<Gf>,
-    list: &[(u32, u32, u32)],
-) -> Result<KPoly, RingFault>
-    requires field { ring.now.coeffs ≡ 7 }
-    requires count { ring.now.vars ≡ 2 }
-    ensures { IfOk result (λ f. IsNormal (residue_ops 7) (λ c. nat_lt c 7) 2 f) }
-{
-    let mut terms = Vec::new(alloc);
-    for (c, a, b) in list {
-        if let Some(mono) = Mono::from_exponents(alloc, &[*a, *b])? {
-            terms.push((mono, *c % 7))?;
-        }
-    }
-    ring.from_terms(alloc, terms)
-}
-
-// Whether these are the terms, in this order.
-fn is_list(ring: &PolyRing<Gf>, f: &KPoly, list: &[(u32, u32, u32)]) -> bool {
-    if ring.len(f) as usize != list.len() {
-        return false;
-    }
-    for k in 0..ring.len(f) {
-        let (c, a, b) = list[k as usize];
-        let mono = ring.mono(f, k);
-        if mono.vars() != 2
-            || mono.exponent(0) != a
-            || mono.exponent(1) != b
-            || *ring.coeff(f, k) != c
-        {
-            return false;
-        }
-    }
-    true
-}
 
 // x^2 + 2*x*y + y^2
 #[test]

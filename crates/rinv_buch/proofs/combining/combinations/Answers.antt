@@ -1,4 +1,4 @@
-use Rattle.std.proofs.Common.{rules, ◌≡◌, ◌<◌, ◌≤◌, ◌+◌, ◌∙◌, ℕ, List, [], ◌∷◌, ◌++◌, true, false, ap, ap₂, sym, subst, subst₂, arith, length, get_or, map, take, All, None}
+use Rattle.std.proofs.Common.{rules, ◌≡◌, ◌<◌, ◌≤◌, ◌+◌, ◌∙◌, ℕ, List, [], ◌∷◌, true, false, ap, ap₂, sym, subst, subst₂, arith, length, get_or, map, take, All, None}
 use Rattle.std.proofs.lemmas.Result.{err_from_is_err_and}
 use Rattle.std.proofs.lemmas.List.{length-map, length_push, length-take-le, map-append}
 use Rattle.std.proofs.lemmas.List.Elements.{All-take, All-push}

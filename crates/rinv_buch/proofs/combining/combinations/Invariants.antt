@@ -1,7 +1,6 @@
 use Rattle.std.proofs.Common.{◌≡◌, length, map, take, All}
 use Rattle.rinv_algebra.specs.Normal.{IsNormal}
 use Rattle.rinv_div.specs.Divisors.{AreDivisors}
-use Rattle.rinv_buch.specs.Kinds.{journal_of}
 use Rattle.rinv_buch.proofs.JournalSteps.{IsCombined}
 use Rattle.rinv_buch.proofs.combining.combinations.Given as goal
 

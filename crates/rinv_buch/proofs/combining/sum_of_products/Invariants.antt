@@ -1,4 +1,4 @@
-use Rattle.std.proofs.Common.{◌≡◌, take, map, All}
+use Rattle.std.proofs.Common.{take, map, All}
 use Rattle.rinv_algebra.specs.Ring.{IsSame}
 use Rattle.rinv_algebra.specs.Polynomial.{poly_ops}
 use Rattle.rinv_algebra.specs.Normal.{IsNormal}
