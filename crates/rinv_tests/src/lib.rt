@@ -2,12 +2,6 @@
 #![tactic(auto)]
 
 #[cfg(test)]
-mod checks;
-#[cfg(test)]
 mod divisions;
 #[cfg(test)]
 mod polynomials;
-#[cfg(test)]
-mod readings;
-#[cfg(test)]
-mod signs;
