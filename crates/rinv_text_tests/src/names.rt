@@ -4,7 +4,6 @@ ghost use Rattle.std.specs.Prelude.{◌≡◌, [], ◌∷◌, IfOk};
 
 use rinv_text::{Names, TextCode, TextFault, TextStop};
 use std::alloc::{AllocError, Global};
-use std::test::Fail;
 
 // Words, and how many names they are, or the place of the first that is refused.
 const LISTS: &[(&[&str], Result<u32, u32>)] = &[
@@ -18,6 +17,12 @@ const LISTS: &[(&[&str], Result<u32, u32>)] = &[
     (&["sixteen_bytes_ok", "seventeen_bytes_no"], Err(1)),
 ];
 
+const SYMBOLS: &[&str] = &[
+    "y1", "y2", "y3", "y4", "y5", "y6", "y7", "y8", "y9", "y10", "y11",
+];
+
+const PRIMED: &[&str] = &["a", "a'", "a''", "x"];
+
 // The words, each owned.
 fn owned(alloc: Global, list: &[&str]) -> Result<Vec<String>, AllocError> {
     let mut words = Vec::new(alloc);
@@ -29,11 +34,14 @@ fn owned(alloc: Global, list: &[&str]) -> Result<Vec<String>, AllocError> {
 }
 
 // How many names the words are, or the place of the first that is refused; 99 for another refusal.
-fn counted(alloc: Global, words: &[String]) -> Result<u32, u32> {
+fn counted(alloc: Global, list: &[&str]) -> Result<u32, u32> {
+    let Ok(words) = owned(alloc, list) else {
+        return Err(99);
+    };
     if words.len() > 100 {
         return Err(99);
     }
-    match Names::from_words(alloc, words) {
+    match Names::from_words(alloc, &words) {
         Ok(names) => Ok(names.len()),
         Err(
             TextStop::Fault(
@@ -48,12 +56,10 @@ fn counted(alloc: Global, words: &[String]) -> Result<u32, u32> {
 }
 
 #[test]
-fn takes_words_up_to_the_first_bad_one(rt: HostRuntime) -> Result<(), Fail> {
+fn takes_words_up_to_the_first_bad_one(rt: HostRuntime) {
     for (list, outcome) in LISTS {
-        let words = owned(rt.alloc(), list)?;
-        assert!(rt; counted(rt.alloc(), &words) == *outcome, "at {list:?}");
+        assert!(rt; counted(rt.alloc(), list) == *outcome, "at {list:?}");
     }
-    Ok(())
 }
 
 // One name.
@@ -74,32 +80,38 @@ fn primed_and_x(alloc: Global) -> Result<Names, TextStop> {
     Ok(all)
 }
 
-// The names, each with a space behind it.
-fn line(alloc: Global, names: &Names) -> Result<Vec<u8>, AllocError> {
-    let mut text = Vec::new(alloc);
-    for k in 0..names.len() {
-        text.extend_from_slice(names.name(k).as_bytes())?;
-        text.extend_from_slice(b" ")?;
+// Whether these are the names, each at its place.
+fn are_names(names: &Names, words: &[&str]) -> bool {
+    if names.len() as usize != words.len() {
+        return false;
     }
-    Ok(text)
+    for k in 0..names.len() {
+        let word = words[k as usize];
+        if names.name(k) != word || names.place(word) != Some(k) {
+            return false;
+        }
+    }
+    true
+}
+
+// Whether the first eleven symbols are these.
+fn are_symbols(alloc: Global, words: &[&str]) -> bool {
+    match Names::symbols(alloc, 11) {
+        Ok(names) => are_names(&names, words),
+        Err(_) => false,
+    }
+}
+
+// Whether a, a' and a'', and then x, are these names.
+fn are_primed(alloc: Global, words: &[&str]) -> bool {
+    match primed_and_x(alloc) {
+        Ok(names) => are_names(&names, words) && names.place("b").is_none(),
+        Err(_) => false,
+    }
 }
 
 #[test]
-fn makes_symbols(rt: HostRuntime) -> Result<(), Fail> {
-    let symbols = Names::symbols(rt.alloc(), 11)?;
-    let text = line(rt.alloc(), &symbols)?;
-    assert!(rt; text.as_slice() == b"y1 y2 y3 y4 y5 y6 y7 y8 y9 y10 y11 ".as_slice());
-    Ok(())
-}
-
-#[test]
-fn primes_and_joins_names(rt: HostRuntime) -> Result<(), Fail> {
-    let Ok(names) = primed_and_x(rt.alloc()) else {
-        return Err("no names".into());
-    };
-    let text = line(rt.alloc(), &names)?;
-    assert!(rt; text.as_slice() == b"a a' a'' x ".as_slice());
-    assert_eq!(rt; names.place("a'"), Some(1));
-    assert_eq!(rt; names.place("b"), None);
-    Ok(())
+fn makes_lists_of_names(rt: HostRuntime) {
+    assert!(rt; are_symbols(rt.alloc(), SYMBOLS));
+    assert!(rt; are_primed(rt.alloc(), PRIMED));
 }

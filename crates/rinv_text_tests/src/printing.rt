@@ -3,7 +3,6 @@
 use crate::polynomials::{polynomial, printed};
 use rinv_text::{Names, TextStop, write_fraction};
 use std::alloc::Global;
-use std::test::Fail;
 
 // Numerators, denominators, and the texts of the fractions.
 const FRACTIONS: &[(&str, &str, &str)] = &[
@@ -15,12 +14,19 @@ const FRACTIONS: &[(&str, &str, &str)] = &[
 ];
 
 // The text of the fraction.
-fn fraction(alloc: Global, names: &Names, num: &str, den: &str) -> Result<Vec<u8>, TextStop> {
-    let num = polynomial(alloc, names, num)?;
-    let den = polynomial(alloc, names, den)?;
+fn fraction(alloc: Global, num: &str, den: &str) -> Result<Vec<u8>, TextStop> {
+    let names = Names::symbols(alloc, 3)?;
+    let num = polynomial(alloc, &names, num)?;
+    let den = polynomial(alloc, &names, den)?;
     let mut out = Vec::new(alloc);
-    write_fraction(alloc, &num, &den, names, &mut out)?;
+    write_fraction(alloc, &num, &den, &names, &mut out)?;
     Ok(out)
+}
+
+// The text of the polynomial, behind `f = `.
+fn equation(alloc: Global, text: &str) -> Result<Vec<u8>, TextStop> {
+    let names = Names::symbols(alloc, 3)?;
+    printed(alloc, &names, b"f = ", text)
 }
 
 // Whether the bytes are this text.
@@ -32,19 +38,11 @@ fn is_text(bytes: &Result<Vec<u8>, TextStop>, text: &str) -> bool {
 }
 
 #[test]
-fn prints_fractions(rt: HostRuntime) -> Result<(), Fail> {
-    let names = Names::symbols(rt.alloc(), 3)?;
+fn prints_polynomials_and_fractions(rt: HostRuntime) {
     for (num, den, text) in FRACTIONS {
-        let bytes = fraction(rt.alloc(), &names, num, den);
+        let bytes = fraction(rt.alloc(), num, den);
         assert!(rt; is_text(&bytes, text), "at {text}");
     }
-    Ok(())
-}
-
-#[test]
-fn prints_behind_other_bytes(rt: HostRuntime) -> Result<(), Fail> {
-    let names = Names::symbols(rt.alloc(), 3)?;
-    let bytes = printed(rt.alloc(), &names, b"f = ", "y3^2+2*y2*y3");
+    let bytes = equation(rt.alloc(), "y3^2+2*y2*y3");
     assert!(rt; is_text(&bytes, "f = 2*y2*y3 + y3^2"));
-    Ok(())
 }
