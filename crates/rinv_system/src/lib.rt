@@ -19,6 +19,3 @@ pub use lines::{content, first_bad_line, first_line};
 pub use read::read_system;
 pub use refused::{Code, Refused, SystemStop};
 pub use write::write_system;
-
-#[cfg(test)]
-mod tests;

@@ -4,14 +4,8 @@
 #[cfg(test)]
 mod bases;
 #[cfg(test)]
-mod checks;
-#[cfg(test)]
 mod divisions;
 #[cfg(test)]
 mod polynomials;
-#[cfg(test)]
-mod readings;
-#[cfg(test)]
-mod signs;
 #[cfg(test)]
 mod tables;

@@ -12,14 +12,10 @@ mod parser;
 mod partial;
 mod polynomial;
 mod reading;
-#[cfg(test)]
-mod reading_tests;
 mod size;
 mod step;
 mod system;
 mod terms;
-#[cfg(test)]
-mod tests;
 mod token;
 mod tokens;
 mod value;

@@ -1,7 +1,7 @@
 use Rattle.std.proofs.Common.{◌≡◌, [], ◌∷◌, List, ℕ, codes, false, refl}
 use Rattle.std.specs.List.{list_any}
 use Rattle.rinv_text.specs.Names.{has_prime, meet, copies}
-use Rattle.rinv_text.proofs.tests.primed_and_x.Goals as goal
+use Rattle.rinv_text_tests.proofs.names.primed_and_x.Goals as goal
 
 plain : (names : List (List ℕ)) → names ≡ codes "a" ∷ [] → list_any has_prime names ≡ false
 plain names is = rw is refl

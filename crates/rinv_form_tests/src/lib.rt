@@ -1,0 +1,9 @@
+//! Tests of the public calls that read a certificate and check it. They stand in a crate of their own, so that no crate is proved once more with its tests.
+#![tactic(auto)]
+
+#[cfg(test)]
+mod checks;
+#[cfg(test)]
+mod readings;
+#[cfg(test)]
+mod signs;

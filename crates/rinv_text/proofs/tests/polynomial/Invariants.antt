@@ -1,6 +1,0 @@
-use Rattle.std.proofs.Common.{All, nat_lt}
-use Rattle.rinv_poly.specs.Terms.{IsTerm}
-use Rattle.rinv_text.proofs.tests.polynomial.Given as goal
-
-abbrev pub invariant-loop-c : goal.invariant-loop-c
-invariant-loop-c l = All (IsTerm (λ c. nat_lt c 7) 3) l.terms.items
