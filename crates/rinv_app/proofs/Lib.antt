@@ -1,3 +1,4 @@
 pub mod Lines
 pub mod Runs
 pub mod Accepted
+pub mod LawVariables

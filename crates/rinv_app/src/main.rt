@@ -2,11 +2,15 @@
 #![tactic(auto)]
 
 mod fraction;
+mod law_lines;
+mod laws;
 mod reply;
 mod status;
 #[cfg(test)]
 mod tests;
 mod top;
+mod verdict;
+mod words;
 
 use rinv_io::{StdSink, StdSource};
 pub use status::Status;
@@ -15,6 +19,7 @@ use std::env;
 use std::io::ErrorKind;
 use std::process::ExitCode;
 pub use top::serve;
+pub use words::Command;
 
 /// The status where the system refuses a word, which is no answer of `serve`.
 const WORD_REFUSED: u8 = 8;

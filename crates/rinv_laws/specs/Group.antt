@@ -1,5 +1,5 @@
 -- What is known of the group's ideal.
-use Rattle.std.specs.Prelude.{◌≡◌, ℕ, List, nat_lt, All, IsTrue}
+use Rattle.std.specs.Prelude.{◌≡◌, ◌⊎◌, ℕ, List, nat_lt, All, IsTrue}
 use Rattle.rinv_algebra.specs.Residue.{residue_ops}
 use Rattle.rinv_algebra.specs.Order.{grevlex}
 use Rattle.rinv_algebra.specs.Polynomial.{is_zero}
@@ -11,6 +11,7 @@ use Rattle.rinv_ring.specs.Operation.{RingOp}
 use Rattle.rinv_div.specs.declared.budget.Budget.{Budget}
 use Rattle.rinv_buch.specs.declared.kinds.Why.TheVariants.{Degree}
 use Rattle.rinv_buch.specs.Kinds.{Found, Halted}
+use Rattle.rinv_buch.specs.Causes.{Halts}
 use Rattle.rinv_buch.specs.Spent.{SpendsOn}
 use Rattle.rinv_buch.specs.Reducing.{ReducingMeets}
 
@@ -37,3 +38,7 @@ pub record HaltsReducing (s : System) (before after : Budget) (h : Halted ℕ) :
   pub right : ℕ
   pub why : h.why ≡ Degree left right
   pub meets : ReducingMeets (residue_ops s.p) grevlex never h.polys left right
+
+-- the run on the group's ideal halts, in its pairs or in the making of the reduced basis
+abbrev pub HaltsInGroup : System → Budget → Budget → Halted ℕ → Type 0
+HaltsInGroup s before after h = Halts (residue_ops s.p) grevlex never s.ideal before after h ⊎ HaltsReducing s before after h

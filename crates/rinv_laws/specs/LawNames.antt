@@ -1,5 +1,5 @@
 -- The laws by their names, and the variables in which their parts are written.
-use Rattle.std.specs.Prelude.{ℕ, ◌+◌, ◌*◌}
+use Rattle.std.specs.Prelude.{ℕ, ◌+◌, ◌*◌, List, codes, Bool, true, false}
 use Rattle.rinv_defs.specs.System.{System, group_count, space_count}
 use Rattle.rinv_defs.specs.Laws.{Law, copies}
 use Rattle.rinv_defs.specs.Laws.Law.{L1, L2, L3, L4, L5, L6, A1, A2}
@@ -42,3 +42,25 @@ space_in s A2 = space_count s
 -- the variables of a law's parts: those of the copies of the group, then the space's where it speaks of one
 abbrev pub variables_of : System → Law → ℕ
 variables_of s law = copies law * group_count s + space_in s law
+
+-- whether a law speaks of a point of the space
+abbrev pub is_of_action : Law → Bool
+is_of_action L1 = false
+is_of_action L2 = false
+is_of_action L3 = false
+is_of_action L4 = false
+is_of_action L5 = false
+is_of_action L6 = false
+is_of_action A1 = true
+is_of_action A2 = true
+
+-- how a law is called
+abbrev pub law_word : Law → List ℕ
+law_word L1 = codes "L1"
+law_word L2 = codes "L2"
+law_word L3 = codes "L3"
+law_word L4 = codes "L4"
+law_word L5 = codes "L5"
+law_word L6 = codes "L6"
+law_word A1 = codes "A1"
+law_word A2 = codes "A2"

@@ -1,12 +1,10 @@
 //! The Gröbner basis of the group's ideal.
 
-ghost use Rattle.std.specs.Prelude.{◌≡◌, ◌⊎◌, IfOk, IfErr};
-ghost use Rattle.rinv_algebra.specs.Residue.{residue_ops};
-ghost use Rattle.rinv_algebra.specs.Order.{grevlex};
+ghost use Rattle.std.specs.Prelude.{IfOk, IfErr};
 ghost use Rattle.rinv_defs.specs.SystemForm.{IsSystem};
-ghost use Rattle.rinv_buch.specs.Causes.{Halts, StopsSo};
+ghost use Rattle.rinv_buch.specs.Causes.{StopsSo};
 ghost use Rattle.rinv_buch.specs.Spent.{IsKept, KeepsLimits, SpendsOn};
-ghost use Rattle.rinv_laws.specs.Group.{IsGroupBasis, HaltsReducing, never};
+ghost use Rattle.rinv_laws.specs.Group.{IsGroupBasis, HaltsInGroup};
 
 use rinv_buch::kinds::Basis;
 use rinv_buch::{Halt, Stop, Why, basis, interreduce};
@@ -35,7 +33,7 @@ pub fn group_basis(
     requires within { IsKept budget.old }
     ensures basis { IfOk result (λ g. IsGroupBasis system.now.system g.basis g.reduced.items) }
     ensures spent { IfOk result (λ g. SpendsOn g.basis.journal 0 budget.old budget.new) }
-    ensures stop { IfErr result (StopsSo (λ h. Halts (residue_ops system.now.system.p) grevlex never system.now.system.ideal budget.old budget.new h ⊎ HaltsReducing system.now.system budget.old budget.new h)) }
+    ensures stop { IfErr result (StopsSo (HaltsInGroup system.now.system budget.old budget.new)) }
     ensures limits { KeepsLimits budget.old budget.new }
     ensures still_within { IsKept budget.new }
 {

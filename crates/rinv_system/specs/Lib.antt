@@ -8,3 +8,4 @@ pub mod Stops
 pub mod OneSystem
 pub mod Written
 pub mod Writing
+pub mod Codes

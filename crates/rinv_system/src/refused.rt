@@ -1,8 +1,12 @@
 //! Why a text is refused, and on which line.
 
+ghost use Rattle.std.specs.Prelude.{◌≡◌};
+ghost use Rattle.rinv_system.specs.Codes.{field_word, text_word};
+
 use rinv_ring::FieldFault;
 use rinv_text::TextCode;
 use std::alloc::{AllocError as NoMemory, AllocFailed};
+use std::fmt;
 
 /// What is wrong with a line.
 #[derive(Clone, Copy, Debug, PartialEq, Eq)]
@@ -21,6 +25,50 @@ pub enum Code {
     Field(FieldFault),
     /// Its numbers, names or polynomials have a fault.
     Text(TextCode),
+}
+
+impl fmt::Display for Code {
+    ghost use Rattle.std.specs.Prelude.{Some};
+    ghost use Rattle.rinv_system.specs.Codes.{code_word};
+
+    ghost output = { λ code. Some (code_word code) };
+
+    fn fmt<W: fmt::Write>(&self, f: &mut fmt::Formatter<W>) -> fmt::Result {
+        f.write_str(match self {
+            Code::NotText => "NotText",
+            Code::Word => "Word",
+            Code::Missing => "Missing",
+            Code::Twice => "Twice",
+            Code::Count => "Count",
+            Code::Field(fault) => field_word(*fault),
+            Code::Text(code) => text_word(*code),
+        })
+    }
+}
+
+// The code of a number that is no modulus.
+fn field_word(fault: FieldFault) -> &'static str
+    ensures { result.now ≡ field_word fault }
+{
+    match fault {
+        FieldFault::TooSmall => "Field too small",
+        FieldFault::TooLarge => "Field too large",
+        FieldFault::NotListed => "Field not listed",
+    }
+}
+
+// The code of a number, a name or a polynomial with a fault.
+fn text_word(code: TextCode) -> &'static str
+    ensures { result.now ≡ text_word code }
+{
+    match code {
+        TextCode::Expression => "Expression",
+        TextCode::Name => "Name",
+        TextCode::Limit => "Limit",
+        TextCode::FormalDegree => "FormalDegree",
+        TextCode::FormalTerms => "FormalTerms",
+        TextCode::ZeroDenominator => "ZeroDenominator",
+    }
 }
 
 /// Why a line tells nothing.

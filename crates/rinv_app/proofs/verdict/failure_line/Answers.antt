@@ -2,7 +2,7 @@ use Rattle.std.proofs.Common.{◌∙◌, sym, ap}
 use Rattle.std.specs.Prelude.{decimal, codes}
 use Rattle.rinv_defs.specs.Text.{no_text}
 use Rattle.rinv_app.proofs.Lines.{append_assoc-5}
-use Rattle.rinv_app.proofs.reply.failure_line.Goals as goal
+use Rattle.rinv_app.proofs.verdict.failure_line.Goals as goal
 
 pub returns : goal.returns
 unfolding no_text

@@ -1,0 +1,74 @@
+//! The answer to the bytes of a system whose laws are tested: a text and a status, before anything is written.
+
+ghost use Rattle.std.specs.Prelude.{◌≡◌, ◌<◌, ◌-◌, ◌^◌, length, IfOk};
+ghost use Rattle.rinv_defs.specs.SystemForm.{IsSystem};
+ghost use Rattle.rinv_app.specs.LawAnswers.{IsLawsAnswer, IsTested, budget_of};
+
+use crate::law_lines::{degrees_line, fault_line, halted_line, hold_line, refused_line};
+use crate::status::Status;
+use rinv_buch::Stop;
+use rinv_div::Budget;
+use rinv_laws::{LawStop, group_basis, test_laws};
+use rinv_system::{SystemStop, read_system};
+use rinv_text::System;
+use std::alloc::{AllocError as NoMemory, Global};
+
+/// What is printed for the bytes of a system, and the status.
+pub(crate) fn laws_of(alloc: Global, bytes: &[u8]) -> Result<(Vec<u8>, Status), NoMemory>
+    requires { length bytes.now < 2 ^ 32 - 1 }
+    ensures { IfOk result (λ a. IsLawsAnswer bytes.now a.0.items a.1) }
+{
+    let system = match read_system(alloc, bytes) {
+        Ok(system) => system,
+        Err(SystemStop::Refused(refused)) => {
+            let text = refused_line(alloc, refused)?;
+            return Ok((text, Status::Refused));
+        }
+        Err(SystemStop::NoMemory) => return Err(NoMemory),
+    };
+    tested(alloc, &system)
+}
+
+// What the test of the system's laws answers.
+fn tested(alloc: Global, system: &System) -> Result<(Vec<u8>, Status), NoMemory>
+    requires { IsSystem system.now.system }
+    ensures { IfOk result (λ a. IsTested system.now a.0.items a.1) }
+{
+    let mut budget = budget_of(system);
+    let group = match group_basis(alloc, system, &mut budget) {
+        Ok(group) => group,
+        Err(Stop::Incomplete(halt)) => {
+            let text = halted_line(alloc, system, &halt.why)?;
+            return Ok((text, Status::Incomplete));
+        }
+        Err(Stop::NoMemory) => return Err(NoMemory),
+    };
+    match test_laws(alloc, system, &group) {
+        Ok(_quotients) => {
+            let text = hold_line(alloc)?;
+            Ok((text, Status::Done))
+        }
+        Err(LawStop::Fault(fault)) => {
+            let text = fault_line(alloc, system, &fault)?;
+            Ok((text, Status::Denied))
+        }
+        Err(LawStop::Degree { left, right }) => {
+            let text = degrees_line(alloc, left, right)?;
+            Ok((text, Status::Incomplete))
+        }
+        Err(LawStop::NoMemory) => Err(NoMemory),
+    }
+}
+
+// The pairs and steps that the text allows, none of them spent.
+fn budget_of(system: &System) -> Budget
+    ensures { result ≡ budget_of system.now }
+{
+    Budget {
+        pairs: system.pairs,
+        steps: system.steps,
+        pairs_spent: 0,
+        steps_spent: 0,
+        endless: false,
+    }
+}
