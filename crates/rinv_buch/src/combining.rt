@@ -18,7 +18,7 @@ ghost use Rattle.rinv_buch.specs.Combining.{AreCofactors, ColumnMeets, Combines,
 
 use crate::kinds::{Basis, Entry, EntryKind};
 use crate::s_polynomial::{leading_term, s_polynomial_of};
-use rinv_div::{Divisors, divide_wholly};
+use rinv_div::{Divisors, divide_wholly, divisors_of};
 use rinv_mono::{Mono, MonoFault, MonoOrder};
 use rinv_poly::{Poly, PolyRing};
 use rinv_ring::{Field, NoMemory, Ring, RingFault};
@@ -113,25 +113,6 @@ fn zeros<F: Field>(
         list.push(zero)?;
     }
     Ok(list)
-}
-
-// The polynomials as divisors.
-fn divisors_of<F: Field, O: MonoOrder>(
-    ring: &PolyRing<F>,
-    alloc: Global,
-    polys: &[Poly<F>],
-    order: &O,
-) -> Result<Divisors<F>, NoMemory>
-    requires polys { All (IsNormal (F.ops ring.now.coeffs) (F.is_element ring.now.coeffs) ring.now.vars) polys.now }
-    requires nonzero { All (λ h. is_zero (F.ops ring.now.coeffs) h ≡ false) polys.now }
-    requires suits { O.fits order.now ring.now.vars }
-    ensures { IfOk result (λ ds. AreDivisors (F.ops ring.now.coeffs) (F.is_element ring.now.coeffs) ring.now.vars (O.cmp order.now) polys.now ds.list.items) }
-{
-    let mut divisors = Divisors::new(alloc);
-    for h in polys {
-        divisors.push(ring, alloc, h, order)?;
-    }
-    Ok(divisors)
 }
 
 // The cofactors of the rest that the entry adds to the list.

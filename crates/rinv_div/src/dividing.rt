@@ -13,7 +13,7 @@ ghost use Rattle.rinv_div.specs.Divisors.{AreDivisors};
 ghost use Rattle.rinv_div.specs.Stops.{Divides, DividesBy, RunsOut, MeetsDegree, StepsMeet, StopsBy};
 
 use crate::budget::Budget;
-use crate::divisors::Divisors;
+use crate::divisors::{Divisors, divisors_of};
 use crate::quotients::{empty_lists, gathered, polynomials};
 use crate::sorting::arranged;
 use crate::stop::{DivStop, Division};
@@ -85,10 +85,7 @@ pub fn divide<F: Field, O: MonoOrder>(
     ensures budget { KeepsOthers steps.old steps.new }
     ensures still_within { IsWithin steps.new }
 {
-    let mut divisors = Divisors::new(alloc);
-    for h in basis {
-        divisors.push(ring, alloc, h, order)?;
-    }
+    let divisors = divisors_of(ring, alloc, basis, order)?;
     divide_by(ring, alloc, f, basis, &divisors, order, steps)
 }
 
