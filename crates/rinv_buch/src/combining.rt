@@ -115,8 +115,8 @@ fn zeros<F: Field>(
     Ok(list)
 }
 
-// The polynomials as divisors.
-fn divisors_of<F: Field, O: MonoOrder>(
+/// The polynomials as divisors.
+pub fn divisors_of<F: Field, O: MonoOrder>(
     ring: &PolyRing<F>,
     alloc: Global,
     polys: &[Poly<F>],

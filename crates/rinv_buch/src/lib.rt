@@ -13,7 +13,7 @@ mod settling;
 mod spending;
 
 pub use buchberger::basis;
-pub use combining::{combinations, sum_of_products};
+pub use combining::{combinations, divisors_of, sum_of_products};
 pub use kinds::{Basis, Entry, EntryKind, Halt, Stop, Why};
 pub use reducing::{interreduce, kept_places};
 
