@@ -2,6 +2,7 @@
 --   total                c(0)*g_0 + c(1)*g_1 + .. in an honest ring
 --   combination-total    a combination is such a sum
 --   rest-sums            what an entry adds
+--   column-sums          sums of columns as cofactors
 --   combines-sums        all elements
 use Rattle.std.proofs.Common.{◌≡◌, ℕ, zero, suc, ◌+◌, ◌<◌, Bool, true, false, not, cond, List, [], ◌∷◌, ◌++◌, length, get_or, set, replicate, map, filter, All, refl, sym, ◌∙◌, ap, ap₂, subst, arith, append-nil}
 use Rattle.std.specs.List.{range_with_len, AllZip}
@@ -96,7 +97,7 @@ module _ {E : Type 0} (o : RingOps E) (l : RingLaws o) where
   combination-total (u ∷ us) [] = class-zero (poly_ops o) (poly_laws o l)
   combination-total (u ∷ us) (g ∷ gs) = combination-cons o l u g us gs ∙ ap ((poly_ring o l).add _) (combination-total us gs)
 
-  combination-right : (qs fs gs : List (Polynomial E)) → AreSame o fs gs → IsSame (poly_ops o) (combination o qs fs) (combination o qs gs)
+  pub combination-right : (qs fs gs : List (Polynomial E)) → AreSame o fs gs → IsSame (poly_ops o) (combination o qs fs) (combination o qs gs)
   unfolding combination
   combination-right [] fs gs s = (poly_laws o l).same_refl []
   combination-right (q ∷ qs) [] [] s = (poly_laws o l).same_refl []
@@ -136,6 +137,14 @@ module _ {E : Type 0} (o : RingOps E) (l : RingLaws o) where
         ∙ total-product (poly_ring o l) (class (poly_ops o) q) (λ m. class (poly_ops o) (get_or us m [])) (λ m. class (poly_ops o) (combination o qs (column lists m))) (classes given)
         ∙ ap₂ (λ x y. (poly_ring o l).add ((poly_ring o l).mul (class (poly_ops o) q) x) y) (sym (combination-total us given)) (columns-sum qs lists)
         ∙ sym (combination-cons o l q (combination o us given) qs (sums lists))
+
+    -- what has sums of columns as cofactors is the combination of the sums
+    pub column-sums : (qs us : List (Polynomial E)) (lists : List (List (Polynomial E))) → ((m : ℕ) → m < length given → IsSame (poly_ops o) (get_or us m []) (combination o qs (column lists m)))
+        → IsSame (poly_ops o) (combination o us given) (combination o qs (map (λ us. combination o us given) lists))
+    column-sums qs us lists each = class_exact (poly_ops o) (poly_laws o l) _ _ (
+        combination-total us given
+        ∙ total-agree (poly_ring o l) _ _ (classes given) (λ m inside. class_sound (poly_ops o) (poly_laws o l) _ _ (each m (omega (arith, inside, length-map given (class (poly_ops o))))))
+        ∙ columns-sum qs lists)
 
     -- the elements are the combinations
     abbrev pub SumUp : List (Polynomial E) → List (List (Polynomial E)) → Type 0

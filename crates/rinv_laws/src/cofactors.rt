@@ -28,7 +28,7 @@ fn list_in_copy(
     copy: u32,
 ) -> Result<Vec<KPoly>, NoMemory>
     requires field { from.now.coeffs ≡ to.now.coeffs }
-    requires polynomials { ArePolynomials to.now.coeffs from.now.vars list.now }
+    requires polynomials { ArePolynomials from.now.coeffs from.now.vars list.now }
     requires inside { copy * from.now.vars + from.now.vars ≤ to.now.vars }
     ensures normal { IfOk result (λ r. ArePolynomials to.now.coeffs to.now.vars r.items) }
     ensures value { IfOk result (λ r. AreSame (residue_ops to.now.coeffs) r.items (map (past (copy * from.now.vars)) list.now)) }
@@ -50,7 +50,7 @@ fn lists_in_copy(
     copy: u32,
 ) -> Result<Vec<Vec<KPoly>>, NoMemory>
     requires field { from.now.coeffs ≡ to.now.coeffs }
-    requires polynomials { All (λ us. ArePolynomials to.now.coeffs from.now.vars us.items) lists.now }
+    requires polynomials { All (λ us. ArePolynomials from.now.coeffs from.now.vars us.items) lists.now }
     requires inside { copy * from.now.vars + from.now.vars ≤ to.now.vars }
     ensures normal { IfOk result (λ r. All (λ us. ArePolynomials to.now.coeffs to.now.vars us.items) r.items) }
     ensures value { IfOk result (λ r. AllZip (AreSame (residue_ops to.now.coeffs)) (map (λ us. us.items) r.items) (past_lists (copy * from.now.vars) (map (λ us. us.items) lists.now))) }
@@ -72,7 +72,7 @@ pub(crate) fn lists_in_copies(
     copies: u32,
 ) -> Result<Vec<Vec<Vec<KPoly>>>, NoMemory>
     requires field { from.now.coeffs ≡ to.now.coeffs }
-    requires polynomials { All (λ us. ArePolynomials to.now.coeffs from.now.vars us.items) lists.now }
+    requires polynomials { All (λ us. ArePolynomials from.now.coeffs from.now.vars us.items) lists.now }
     requires inside { copies * from.now.vars ≤ to.now.vars }
     ensures normal { IfOk result (λ r. All (λ ls. All (λ us. ArePolynomials to.now.coeffs to.now.vars us.items) ls.items) r.items) }
     ensures value { IfOk result (λ r. AllZip (AllZip (AreSame (residue_ops to.now.coeffs))) (map (λ ls. map (λ us. us.items) ls.items) r.items) (map (λ j. past_lists (j * from.now.vars) (map (λ us. us.items) lists.now)) (range_with_len 0 copies))) }
