@@ -2,13 +2,15 @@
 --   same-copy            a copy, of the copies that were made
 --   over-copies          cofactors by the copies made are cofactors by the copies
 --   copies-meet          a product with a cofactor made is one with the cofactor's copy
---   copies-more          cofactors for one copy more
-use Rattle.std.proofs.Common.{◌≡◌, ◌⊎◌, inl, inr, ℕ, zero, suc, ◌+◌, ◌*◌, ◌<◌, ◌≤◌, true, List, [], ◌∷◌, ◌++◌, length, length-append, get_or, take, drop, map, All, refl, sym, ◌∙◌, ap, subst, nat_lt, arith}
+--   products-meet, copy-meets    the degrees that are met
+--   lists-more, ranged-more, copies-more    one list, one place, one copy more
+use Rattle.std.proofs.Common.{◌≡◌, ◌⊎◌, inl, inr, ℕ, zero, suc, ◌+◌, ◌*◌, ◌<◌, ◌≤◌, true, List, [], ◌∷◌, ◌++◌, length, length-append, get_or, take, drop, map, All, refl, sym, ◌∙◌, ap, subst, subst₂, nat_lt, arith}
 use Rattle.std.specs.List.{range_with_len, AllZip}
 use Rattle.std.proofs.lemmas.Bool.{cases_lt}
-use Rattle.std.proofs.lemmas.List.{length-map, length-take, get_or-take, get_or-drop, get_or_past, get_or-append_right}
-use Rattle.std.proofs.lemmas.List.Elements.{AllZip-get_or, length_all_zip, All-append}
-use Rattle.std.proofs.lemmas.List.FromFn.{get_or-map-range_with_len, length-range_with_len}
+use Rattle.std.proofs.lemmas.List.{length-map, length-take, map_push, get_or-take, get_or-drop, get_or_past, get_or_append_left, get_or-append-add}
+use Rattle.std.proofs.lemmas.List.Elements.{AllZip-get_or, AllZip-push, length_all_zip, All-nil, All-append}
+use Rattle.std.proofs.lemmas.List.FromFn.{get_or-map-range_with_len, length-range_with_len, map-range_with_len_more}
+use Rattle.std.proofs.lemmas.Nat.{row_fits}
 use Rattle.rinv_algebra.specs.Ring.{RingOps, RingLaws, IsSame}
 use Rattle.rinv_algebra.specs.Residue.{residue_ops}
 use Rattle.rinv_algebra.specs.Polynomial.{Polynomial, poly_ops, coefficient, past}
@@ -19,11 +21,16 @@ use Rattle.rinv_algebra.proofs.ResidueLaws.{residue_laws}
 use Rattle.rinv_algebra.proofs.RingFacts as facts
 use Rattle.rinv_groebner.specs.Division.{AreSame}
 use Rattle.rinv_groebner.proofs.UniqueSteps.{same-at}
+use Rattle.rinv_sub.proofs.Sums.{take-at}
+use Rattle.rinv_ring.specs.Fault.{DegreesMeet}
+use Rattle.rinv_ring.specs.declared.fault.RingFault.{RingFault}
 use Rattle.rinv_poly.specs.Faults.{MonomialsMeet}
-use Rattle.rinv_buch.specs.Combining.{column, cofactor}
+use Rattle.rinv_poly.proofs.Meets.{meet-weaker}
+use Rattle.rinv_buch.specs.Combining.{ColumnMeets, column, cofactor}
 use Rattle.rinv_buch.proofs.CombinedSums.{combination-right}
 use Rattle.rinv_defs.specs.System.{Poly}
 use Rattle.rinv_laws.specs.Points.{ArePolynomials}
+use Rattle.rinv_laws.specs.Group.{never}
 use Rattle.rinv_laws.specs.Proofs.{AreInCopies, CopiesMeet, ProductsMeet, past_lists, quotients_in}
 
 module _ {E : Type 0} (o : RingOps E) (l : RingLaws o) where
@@ -81,3 +88,59 @@ quotient-of p count j k qs f x y m = elim (cases_lt k count) [
   | inl low ↦ (low, subst (λ (q : Poly). MonomialsMeet (residue_ops p) q f x y) (get_or-take count (drop (j * count) qs) k [] low ∙ get_or-drop (j * count) qs k []) m)
   | inr high ↦ absurd (no-product p f x y (subst (λ (q : Poly). MonomialsMeet (residue_ops p) q f x y) (get_or_past (quotients_in count qs j) k [] (omega (arith, high, length-take count (drop (j * count) qs)))) m))
 ]
+
+-- ---- one more
+
+-- one list more in a copy
+pub lists-more : {W : Type 0} (view : W → List Poly) (p v : ℕ) (lists : List W) (k : ℕ) (w : W) (made : List W) (u : W) → k < length lists → w ≡ get_or lists k w → AllZip (AreSame (residue_ops p)) (map view made) (past_lists v (map view (take k lists)))
+    → AreSame (residue_ops p) (view u) (map (past v) (view w)) → AllZip (AreSame (residue_ops p)) (map view (made ++ u ∷ [])) (past_lists v (map view (take (k + 1) lists)))
+lists-more view p v lists k w made u low at so_far here =
+    subst₂ (AllZip (AreSame (residue_ops p))) (sym (map_push view made u))
+    (sym (ap (λ ws. past_lists v (map view ws)) (take-at lists k w low at) ∙ ap (past_lists v) (map_push view (take k lists) w) ∙ map_push (λ us. map (past v) us) (map view (take k lists)) (view w)))
+    (AllZip-push (AreSame (residue_ops p)) (map view made) (past_lists v (map view (take k lists))) (view u) (map (past v) (view w)) so_far here)
+
+-- one more of a range
+pub ranged-more : {W X Y : Type 0} (R : X → Y → Type 0) (view : W → X) (F : ℕ → Y) (j : ℕ) (made : List W) (w : W) → AllZip R (map view made) (map F (range_with_len 0 j)) → R (view w) (F j) → AllZip R (map view (made ++ w ∷ [])) (map F (range_with_len 0 (j + 1)))
+ranged-more R view F j made w so_far here =
+    subst₂ (AllZip R) (sym (map_push view made w)) (sym (map-range_with_len_more F 0 j j refl))
+    (AllZip-push R (map view made) (map F (range_with_len 0 j)) (view w) (F j) so_far here)
+
+-- one copy more
+module _ (p v n count : ℕ) (F : ℕ → List (List Poly)) (qs : List Poly) where
+  pub copies-none : AreInCopies p v 0 n count F qs []
+  copies-none = record { number = nothing n; normal = All-nil (IsNormal (residue_ops p) (λ c. nat_lt c p) v); rule = λ j m low inside. absurd (omega (arith, low)) }
+    where
+      nothing : (n : ℕ) → 0 ≡ 0 * n
+      nothing n = omega arith
+
+  pub copies-more : (c : ℕ) (us ws : List Poly) → AreInCopies p v c n count F qs us → length ws ≡ n → ArePolynomials p v ws
+      → ((m : ℕ) → m < n → IsSame (poly_ops (residue_ops p)) (get_or ws m []) (combination (residue_ops p) (quotients_in count qs c) (column (F c) m)))
+      → AreInCopies p v (c + 1) n count F qs (us ++ ws)
+  copies-more c us ws h long normal here = record {
+    number = length-append us ws ∙ one_more h.number long;
+    normal = All-append (IsNormal (residue_ops p) (λ c. nat_lt c p) v) us ws h.normal normal;
+    rule = λ j m low inside. elim (cases_lt j c) [
+      | inl before ↦
+          let row : j * n + n ≤ c * n = row_fits j n c n before (omega arith) in
+          subst (λ (f : Poly). IsSame (poly_ops (residue_ops p)) f (combination (residue_ops p) (quotients_in count qs j) (column (F j) m))) (sym (get_or_append_left us ws [] (j * n + m) (omega (arith, row, inside, h.number)))) (h.rule j m before inside)
+      | inr after ↦
+          let last : c ≡ j = omega (arith, low, after) in
+          subst (λ (i : ℕ). IsSame (poly_ops (residue_ops p)) (get_or (us ++ ws) (i * n + m) []) (combination (residue_ops p) (quotients_in count qs i) (column (F i) m))) last
+          (subst (λ (f : Poly). IsSame (poly_ops (residue_ops p)) f (combination (residue_ops p) (quotients_in count qs c) (column (F c) m)))
+          (sym (ap (λ (i : ℕ). get_or (us ++ ws) (i + m) []) (sym h.number) ∙ get_or-append-add us ws m [])) (here m inside))
+    ];
+  }
+    where
+      one_more : {a b : ℕ} → a ≡ c * n → b ≡ n → a + b ≡ (c + 1) * n
+      one_more e f = omega (arith, e, f)
+
+-- the degrees that a sum of products meets
+pub products-meet : (p : ℕ) (qs : List Poly) (lists : List (List Poly)) (m : ℕ) (fault : RingFault) → DegreesMeet (ColumnMeets (residue_ops p) never qs lists m) fault → DegreesMeet (ProductsMeet p qs lists) fault
+products-meet p qs lists m fault meets = meet-weaker (ColumnMeets (residue_ops p) never qs lists m) (ProductsMeet p qs lists) (λ x y h. elim h [
+  | inl (k, at) ↦ record { element = k; given = m; meets = at }
+  | inr (op, a, b, no) ↦ absurd no
+]) fault meets
+
+-- and those that one copy meets
+pub copy-meets : (p c count : ℕ) (F : ℕ → List (List Poly)) (qs own : List Poly) (j : ℕ) → j < c → own ≡ quotients_in count qs j → (fault : RingFault) → DegreesMeet (ProductsMeet p own (F j)) fault → DegreesMeet (CopiesMeet p c count F qs) fault
+copy-meets p c count F qs own j low is fault meets = meet-weaker (ProductsMeet p own (F j)) (CopiesMeet p c count F qs) (λ x y m. record { copy = j; inside = low; products = subst (λ (rs : List Poly). ProductsMeet p rs (F j) x y) is m }) fault meets

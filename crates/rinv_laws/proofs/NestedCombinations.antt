@@ -32,6 +32,9 @@ module _ {E : Type 0} (o : RingOps E) where
   combination-nothing [] = refl
   combination-nothing (u ∷ us) = refl
 
+no-times : (n : ℕ) → 0 * n ≡ 0
+no-times n = omega arith
+
 -- how many polynomials stand in the copies
 flat-length : {X : Type 0} (n : ℕ) (G : ℕ → List X) → ((j : ℕ) → length (G j) ≡ n) → (c s : ℕ) → length (flat_map G (range_with_len s c)) ≡ c * n
 flat-length n G long zero s = omega arith
@@ -89,10 +92,7 @@ module _ {E : Type 0} (o : RingOps E) (l : RingLaws o) where
       (flat-combination (length fs) (length lists) (λ j. map (past (j * v)) fs) (λ j. map (past (j * v)) hs) (λ j. length-map fs (past (j * v))) (λ j. length-map hs (past (j * v)) ∙ long) us qs c 0 (λ j low. in_one j (omega (arith, low))))
     where
       from_start : (n : ℕ) (ws : List (Polynomial E)) → drop (0 * n) ws ≡ ws
-      from_start n ws = ap (λ (i : ℕ). drop i ws) (nothing n)
-        where
-          nothing : (n : ℕ) → 0 * n ≡ 0
-          nothing n = omega arith
+      from_start n ws = ap (λ (i : ℕ). drop i ws) (no-times n)
 
       long : length hs ≡ length lists
       long = length_all_zip (IsSame (poly_ops o)) hs (map (λ us. combination o us fs) lists) s ∙ length-map lists (λ us. combination o us fs)
