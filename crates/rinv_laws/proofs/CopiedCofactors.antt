@@ -7,7 +7,7 @@
 use Rattle.std.proofs.Common.{◌≡◌, ◌⊎◌, inl, inr, ℕ, zero, suc, ◌+◌, ◌*◌, ◌<◌, ◌≤◌, true, List, [], ◌∷◌, ◌++◌, length, length-append, get_or, take, drop, map, All, refl, sym, ◌∙◌, ap, subst, subst₂, nat_lt, arith}
 use Rattle.std.specs.List.{range_with_len, AllZip}
 use Rattle.std.proofs.lemmas.Bool.{cases_lt}
-use Rattle.std.proofs.lemmas.List.{length-map, length-take, map_push, get_or-take, get_or-drop, get_or_past, get_or_append_left, get_or-append-add}
+use Rattle.std.proofs.lemmas.List.{length-map, length-take, map_push, get_or-map, get_or-take, get_or-drop, get_or_past, get_or_append_left, get_or-append-add}
 use Rattle.std.proofs.lemmas.List.Elements.{AllZip-get_or, AllZip-push, length_all_zip, All-nil, All-append}
 use Rattle.std.proofs.lemmas.List.FromFn.{get_or-map-range_with_len, length-range_with_len, map-range_with_len_more}
 use Rattle.std.proofs.lemmas.Nat.{row_fits}
@@ -31,7 +31,7 @@ use Rattle.rinv_buch.proofs.CombinedSums.{combination-right}
 use Rattle.rinv_defs.specs.System.{Poly}
 use Rattle.rinv_laws.specs.Points.{ArePolynomials}
 use Rattle.rinv_laws.specs.Group.{never}
-use Rattle.rinv_laws.specs.Proofs.{AreInCopies, CopiesMeet, ProductsMeet, past_lists, quotients_in}
+use Rattle.rinv_laws.specs.Proofs.{AreInCopies, CopiesMeet, ProductsMeet, chosen, past_lists, quotients_in}
 
 module _ {E : Type 0} (o : RingOps E) (l : RingLaws o) where
   -- entries of lists that are the same
@@ -92,12 +92,17 @@ quotient-of p count j k qs f x y m = elim (cases_lt k count) [
 -- ---- one more
 
 -- one list more in a copy
-pub lists-more : {W : Type 0} (view : W → List Poly) (p v : ℕ) (lists : List W) (k : ℕ) (w : W) (made : List W) (u : W) → k < length lists → w ≡ get_or lists k w → AllZip (AreSame (residue_ops p)) (map view made) (past_lists v (map view (take k lists)))
-    → AreSame (residue_ops p) (view u) (map (past v) (view w)) → AllZip (AreSame (residue_ops p)) (map view (made ++ u ∷ [])) (past_lists v (map view (take (k + 1) lists)))
-lists-more view p v lists k w made u low at so_far here =
+pub lists-more : {W : Type 0} (view : W → List Poly) (p v : ℕ) (all : List (List Poly)) (places : List ℕ) (k place : ℕ) (made : List W) (u : W) → k < length places → place ≡ get_or places k place
+    → AllZip (AreSame (residue_ops p)) (map view made) (past_lists v (chosen all (take k places))) → AreSame (residue_ops p) (view u) (map (past v) (get_or all place []))
+    → AllZip (AreSame (residue_ops p)) (map view (made ++ u ∷ [])) (past_lists v (chosen all (take (k + 1) places)))
+lists-more view p v all places k place made u low at so_far here =
     subst₂ (AllZip (AreSame (residue_ops p))) (sym (map_push view made u))
-    (sym (ap (λ ws. past_lists v (map view ws)) (take-at lists k w low at) ∙ ap (past_lists v) (map_push view (take k lists) w) ∙ map_push (λ us. map (past v) us) (map view (take k lists)) (view w)))
-    (AllZip-push (AreSame (residue_ops p)) (map view made) (past_lists v (map view (take k lists))) (view u) (map (past v) (view w)) so_far here)
+    (sym (ap (λ (ks : List ℕ). past_lists v (chosen all ks)) (take-at places k place low at) ∙ ap (past_lists v) (map_push (λ i. get_or all i []) (take k places) place) ∙ map_push (λ us. map (past v) us) (chosen all (take k places)) (get_or all place [])))
+    (AllZip-push (AreSame (residue_ops p)) (map view made) (past_lists v (chosen all (take k places))) (view u) (map (past v) (get_or all place [])) so_far here)
+
+-- the list at a place
+pub list-at : {W : Type 0} (view : W → List Poly) (lists : List W) (place : ℕ) (w : W) → place < length lists → w ≡ get_or lists place w → view w ≡ get_or (map view lists) place []
+list-at view lists place w low at = ap view at ∙ sym (get_or-map view lists place w [] low)
 
 -- one more of a range
 pub ranged-more : {W X Y : Type 0} (R : X → Y → Type 0) (view : W → X) (F : ℕ → Y) (j : ℕ) (made : List W) (w : W) → AllZip R (map view made) (map F (range_with_len 0 j)) → R (view w) (F j) → AllZip R (map view (made ++ w ∷ [])) (map F (range_with_len 0 (j + 1)))

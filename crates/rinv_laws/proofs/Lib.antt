@@ -4,3 +4,4 @@ pub mod GroupFacts
 pub mod NestedCombinations
 pub mod CopiedCofactors
 pub mod ProvedLaws
+pub mod BasisOver

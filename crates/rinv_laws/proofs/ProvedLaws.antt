@@ -30,7 +30,7 @@ use Rattle.rinv_defs.specs.Laws.{Law, copies, parts}
 use Rattle.rinv_laws.specs.LawNames.{variables_of}
 use Rattle.rinv_laws.specs.Points.{ArePolynomials}
 use Rattle.rinv_laws.specs.Copied.{AreQuotients, DividesPart, kept_copies, part_at}
-use Rattle.rinv_laws.specs.Proofs.{AreInCopies, AreMadeOf, CofactorMeets, CopiesMeet, KeepCofactors, MakingMeets, ProvesLaw, ProvesPart, in_copy, kept_elements}
+use Rattle.rinv_laws.specs.Proofs.{AreInCopies, AreMadeOf, CofactorMeets, CopiesMeet, KeepCofactors, MakingMeets, chosen, ProvesLaw, ProvesPart, in_copy, kept_elements}
 use Rattle.rinv_laws.proofs.NestedCombinations.{copies-combination, copies-length}
 use Rattle.rinv_laws.proofs.CopiedCofactors.{cofactor-past, entries-same, quotient-of}
 
@@ -56,10 +56,10 @@ chosen-all : {X : Type 0} (P : X → Type 0) (d : X) (all : List X) (n : ℕ) (p
 chosen-all P d all n places long h inside = All-map P (λ k. get_or all k d) places (All-weaker (λ k. k < n) (λ k. P (get_or all k d)) (λ k low. All-get_or P all k d (omega (arith, low, long)) h) places inside)
 
 pub chosen-keep : (s : System) (found : Found ℕ) (all : List (List Poly)) (places : List ℕ) (p v : ℕ) (fs : List Poly) → p ≡ s.p → v ≡ group_count s → fs ≡ s.ideal → AreCombined found all places p v fs
-    → KeepCofactors s found (map (λ k. get_or all k []) places)
+    → KeepCofactors s found (chosen all places)
 chosen-keep s found all places p v fs a b c made =
     let own : AreCombined found all places s.p (group_count s) s.ideal =
-        subst (λ (q : ℕ). AreCombined found all places q (group_count s) s.ideal) a (subst (λ (w : ℕ). AreCombined found all places p w s.ideal) b (subst (AreCombined found all places p v) c made)) in
+    subst (λ (q : ℕ). AreCombined found all places q (group_count s) s.ideal) a (subst (λ (w : ℕ). AreCombined found all places p w s.ideal) b (subst (AreCombined found all places p v) c made)) in
     record {
       kept = record { all = all; combines = own.rule; kept = ap (λ (ks : List ℕ). map (λ k. get_or all k []) ks) own.places_are };
       lengths = chosen-all (λ us. length us ≡ length s.ideal) [] all (length found.polys) places own.number own.lengths own.inside;

@@ -28,9 +28,13 @@ proved_laws = L2 ∷ L3 ∷ L4 ∷ L5 ∷ L6 ∷ A2 ∷ []
 abbrev pub kept_elements : System → Found ℕ → List Poly
 kept_elements s found = kept_of (residue_ops s.p) grevlex found.polys
 
+-- the lists at the places
+abbrev pub chosen : List (List Poly) → List ℕ → List (List Poly)
+chosen lists places = map (λ k. get_or lists k []) places
+
 -- of the lists of a basis's elements those of the kept ones
 abbrev pub kept_lists : System → Found ℕ → List (List Poly) → List (List Poly)
-kept_lists s found lists = map (λ k. get_or lists k []) (kept_places (map (leading_monomial (residue_ops s.p) grevlex) found.polys))
+kept_lists s found lists = chosen lists (kept_places (map (leading_monomial (residue_ops s.p) grevlex) found.polys))
 
 -- the lists are the cofactors of the kept elements, as the journal makes them
 pub record AreKeptCofactors (s : System) (found : Found ℕ) (lists : List (List Poly)) : Type 0 where

@@ -10,7 +10,7 @@ ghost use Rattle.rinv_groebner.specs.Division.{AreSame};
 ghost use Rattle.rinv_ring.specs.Fault.{DegreesMeet};
 ghost use Rattle.rinv_buch.specs.Combining.{column};
 ghost use Rattle.rinv_laws.specs.Points.{ArePolynomials};
-ghost use Rattle.rinv_laws.specs.Proofs.{AreInCopies, CopiesMeet, ProductsMeet, past_lists};
+ghost use Rattle.rinv_laws.specs.Proofs.{AreInCopies, CopiesMeet, ProductsMeet, chosen, past_lists};
 
 use crate::copied::in_copy;
 use crate::points::appended;
@@ -41,45 +41,49 @@ fn list_in_copy(
     Ok(copies)
 }
 
-// The lists in a copy of their variables.
+// The lists at the places, in a copy of their variables.
 fn lists_in_copy(
     alloc: Global,
     from: &PolyRing<Gf>,
     lists: &[Vec<KPoly>],
+    places: &[usize],
     to: &PolyRing<Gf>,
     copy: u32,
 ) -> Result<Vec<Vec<KPoly>>, NoMemory>
     requires field { from.now.coeffs ≡ to.now.coeffs }
     requires polynomials { All (λ us. ArePolynomials from.now.coeffs from.now.vars us.items) lists.now }
+    requires places { All (λ k. k < length lists.now) places.now }
     requires inside { copy * from.now.vars + from.now.vars ≤ to.now.vars }
     ensures normal { IfOk result (λ r. All (λ us. ArePolynomials to.now.coeffs to.now.vars us.items) r.items) }
-    ensures value { IfOk result (λ r. AllZip (AreSame (residue_ops to.now.coeffs)) (map (λ us. us.items) r.items) (past_lists (copy * from.now.vars) (map (λ us. us.items) lists.now))) }
+    ensures value { IfOk result (λ r. AllZip (AreSame (residue_ops to.now.coeffs)) (map (λ us. us.items) r.items) (past_lists (copy * from.now.vars) (chosen (map (λ us. us.items) lists.now) places.now))) }
 {
-    let mut copies = Vec::with_capacity(alloc, lists.len())?;
-    'lists: for k in 0..lists.len() {
-        let moved = list_in_copy(alloc, from, &lists[k], to, copy)?;
+    let mut copies = Vec::with_capacity(alloc, places.len())?;
+    'places: for k in 0..places.len() {
+        let moved = list_in_copy(alloc, from, &lists[places[k]], to, copy)?;
         copies.push(moved)?;
     }
     Ok(copies)
 }
 
-/// The lists in each of so many copies of their variables.
+/// The lists at the places, in each of so many copies of their variables.
 pub(crate) fn lists_in_copies(
     alloc: Global,
     from: &PolyRing<Gf>,
     lists: &[Vec<KPoly>],
+    places: &[usize],
     to: &PolyRing<Gf>,
     copies: u32,
 ) -> Result<Vec<Vec<Vec<KPoly>>>, NoMemory>
     requires field { from.now.coeffs ≡ to.now.coeffs }
     requires polynomials { All (λ us. ArePolynomials from.now.coeffs from.now.vars us.items) lists.now }
+    requires places { All (λ k. k < length lists.now) places.now }
     requires inside { copies * from.now.vars ≤ to.now.vars }
     ensures normal { IfOk result (λ r. All (λ ls. All (λ us. ArePolynomials to.now.coeffs to.now.vars us.items) ls.items) r.items) }
-    ensures value { IfOk result (λ r. AllZip (AllZip (AreSame (residue_ops to.now.coeffs))) (map (λ ls. map (λ us. us.items) ls.items) r.items) (map (λ j. past_lists (j * from.now.vars) (map (λ us. us.items) lists.now)) (range_with_len 0 copies))) }
+    ensures value { IfOk result (λ r. AllZip (AllZip (AreSame (residue_ops to.now.coeffs))) (map (λ ls. map (λ us. us.items) ls.items) r.items) (map (λ j. past_lists (j * from.now.vars) (chosen (map (λ us. us.items) lists.now) places.now)) (range_with_len 0 copies))) }
 {
     let mut all = Vec::new(alloc);
     'copies: for copy in 0..copies {
-        let in_this = lists_in_copy(alloc, from, lists, to, copy)?;
+        let in_this = lists_in_copy(alloc, from, lists, places, to, copy)?;
         all.push(in_this)?;
     }
     Ok(all)

@@ -102,11 +102,7 @@ pub(crate) fn unit_point(
 }
 
 // Copies of the polynomials.
-pub(crate) fn copies(
-    alloc: Global,
-    ring: &PolyRing<Gf>,
-    fs: &[KPoly],
-) -> Result<Vec<KPoly>, NoMemory>
+fn copies(alloc: Global, ring: &PolyRing<Gf>, fs: &[KPoly]) -> Result<Vec<KPoly>, NoMemory>
     requires { ArePolynomials ring.now.coeffs ring.now.vars fs.now }
     ensures { IfOk result (λ r. r.items ≡ fs.now) }
 {

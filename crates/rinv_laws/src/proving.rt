@@ -13,20 +13,19 @@ ghost use Rattle.rinv_laws.specs.Points.{ArePolynomials};
 ghost use Rattle.rinv_laws.specs.Group.{IsGroupBasis, never};
 ghost use Rattle.rinv_laws.specs.Copied.{AreAllQuotients};
 ghost use Rattle.rinv_laws.specs.Faults.{TestMeets, LawStopsSo};
-ghost use Rattle.rinv_laws.specs.Proofs.{proved_laws, AreMadeOf, KeepCofactors, MakingMeets, ProvesLaw, ProofsMeet};
+ghost use Rattle.rinv_laws.specs.Proofs.{proved_laws, chosen, AreMadeOf, KeepCofactors, MakingMeets, ProvesLaw, ProofsMeet};
 
 use crate::cofactors::{cofactors_in_copies, lists_in_copies};
 use crate::copied::copies_of;
 use crate::group::GroupBasis;
 use crate::law::LawName;
 use crate::parts::variables_of;
-use crate::points::copies;
 use crate::stop::LawStop;
 use crate::testing::{LawQuotients, test_laws};
 use rinv_buch::{combinations, kept_places};
 use rinv_mono::Grevlex;
 use rinv_poly::{KPoly, PolyRing};
-use rinv_ring::{Gf, NoMemory, RingFault};
+use rinv_ring::RingFault;
 use rinv_text::System;
 use std::alloc::Global;
 
@@ -69,11 +68,12 @@ fn proofs_of(
     ensures proofs { IfOk result (λ p. All (λ e. ProvesLaw system.now.system group.now.basis (law_of e.0) (map (λ us. us.items) e.1.items)) p.items) }
     ensures degree { IfErr result (DegreesMeet (ProofsMeet system.now.system group.now.basis)) }
 {
-    let lists = kept_cofactors(alloc, system, group)?;
+    let (lists, places) = kept_cofactors(alloc, system, group)?;
     let mut proofs = Vec::with_capacity(alloc, 6)?;
     'laws: for k in 0..6usize {
         let (law, place) = proved_law(k);
-        let arrays = cofactors_of_law(alloc, system, &lists, law, &quotients.lists[place])?;
+        let own = quotients_at(quotients, place);
+        let arrays = cofactors_of_law(alloc, system, &lists, &places, law, own)?;
         proofs.push((law, arrays))?;
     }
     Ok(proofs)
@@ -95,41 +95,33 @@ fn proved_law(k: usize) -> (LawName, usize)
     }
 }
 
-// The cofactors of the kept elements of the group's basis over the group's ideal.
+// The quotients of the parts of a law, by its place among those that are tested.
+fn quotients_at(quotients: &LawQuotients, place: usize) -> &[Vec<KPoly>]
+    requires { place < length quotients.now }
+    ensures { map (λ qs. qs.items) result.now ≡ get_or quotients.now place [] }
+{
+    &quotients.lists[place]
+}
+
+// The cofactors of the elements of the group's basis over the group's ideal, and the places of the kept elements.
 fn kept_cofactors(
     alloc: Global,
     system: &System,
     group: &GroupBasis,
-) -> Result<Vec<Vec<KPoly>>, RingFault>
+) -> Result<(Vec<Vec<KPoly>>, Vec<usize>), RingFault>
     requires system { IsSystem system.now.system }
     requires group { IsGroupBasis system.now.system group.now.basis group.now.reduced.items }
-    ensures cofactors { IfOk result (λ ls. KeepCofactors system.now.system group.now.basis (map (λ us. us.items) ls.items)) }
+    ensures lengths { IfOk result (λ r. All (λ us. length us.items ≡ length system.now.system.ideal) r.0.items) }
+    ensures normal { IfOk result (λ r. All (λ us. ArePolynomials system.now.system.p (group_count system.now.system) us.items) r.0.items) }
+    ensures inside { IfOk result (λ r. All (λ k. k < length r.0.items) r.1.items) }
+    ensures cofactors { IfOk result (λ r. KeepCofactors system.now.system group.now.basis (chosen (map (λ us. us.items) r.0.items) r.1.items)) }
     ensures degree { IfErr result (DegreesMeet (CombiningMeets (residue_ops system.now.system.p) grevlex never system.now.system.ideal group.now.basis.journal group.now.basis.polys)) }
 {
     let ring = PolyRing::new(system.field, system.group.len());
-    let lists = combinations(&ring, alloc, &system.ideal, &group.basis, &Grevlex)?;
-    let places = kept_places(&ring, alloc, &group.basis.polys, &Grevlex)?;
-    let kept = lists_at(alloc, &ring, &lists, &places)?;
-    Ok(kept)
-}
-
-// The lists at the places.
-fn lists_at(
-    alloc: Global,
-    ring: &PolyRing<Gf>,
-    lists: &[Vec<KPoly>],
-    places: &[usize],
-) -> Result<Vec<Vec<KPoly>>, NoMemory>
-    requires lists { All (λ us. ArePolynomials ring.now.coeffs ring.now.vars us.items) lists.now }
-    requires places { All (λ k. k < length lists.now) places.now }
-    ensures { IfOk result (λ r. map (λ us. us.items) r.items ≡ map (λ k. get_or (map (λ us. us.items) lists.now) k []) places.now) }
-{
-    let mut chosen = Vec::with_capacity(alloc, places.len())?;
-    'places: for k in 0..places.len() {
-        let list = copies(alloc, ring, &lists[places[k]])?;
-        chosen.push(list)?;
-    }
-    Ok(chosen)
+    let found = &group.basis;
+    let lists = combinations(&ring, alloc, &system.ideal, found, &Grevlex)?;
+    let places = kept_places(&ring, alloc, &found.polys, &Grevlex)?;
+    Ok((lists, places))
 }
 
 // For each part of the law, given by the quotients of its division, its cofactors over the copies of the group's ideal.
@@ -137,21 +129,23 @@ fn cofactors_of_law(
     alloc: Global,
     system: &System,
     lists: &[Vec<KPoly>],
+    places: &[usize],
     law: LawName,
     quotients: &[Vec<KPoly>],
 ) -> Result<Vec<Vec<KPoly>>, RingFault>
     requires system { IsSystem system.now.system }
     requires lists { All (λ us. ArePolynomials system.now.system.p (group_count system.now.system) us.items) lists.now }
     requires lengths { All (λ us. length us.items ≡ length system.now.system.ideal) lists.now }
-    requires many { All (λ qs. length qs.items ≡ copies (law_of law) * length lists.now) quotients.now }
+    requires places { All (λ k. k < length lists.now) places.now }
+    requires many { All (λ qs. length qs.items ≡ copies (law_of law) * length places.now) quotients.now }
     requires quotients { All (λ qs. ArePolynomials system.now.system.p (variables_of system.now.system (law_of law)) qs.items) quotients.now }
-    ensures cofactors { IfOk result (λ r. AreMadeOf system.now.system (law_of law) (map (λ us. us.items) lists.now) (map (λ qs. qs.items) quotients.now) (map (λ us. us.items) r.items)) }
-    ensures degree { IfErr result (DegreesMeet (MakingMeets system.now.system (law_of law) (map (λ us. us.items) lists.now) (map (λ qs. qs.items) quotients.now))) }
+    ensures cofactors { IfOk result (λ r. AreMadeOf system.now.system (law_of law) (chosen (map (λ us. us.items) lists.now) places.now) (map (λ qs. qs.items) quotients.now) (map (λ us. us.items) r.items)) }
+    ensures degree { IfErr result (DegreesMeet (MakingMeets system.now.system (law_of law) (chosen (map (λ us. us.items) lists.now) places.now) (map (λ qs. qs.items) quotients.now))) }
 {
     let from = PolyRing::new(system.field, system.group.len());
     let ring = PolyRing::new(system.field, variables_of(system, law));
-    let copied = lists_in_copies(alloc, &from, lists, &ring, copies_of(law))?;
-    let (kept, count) = (lists.len(), system.ideal.len());
+    let copied = lists_in_copies(alloc, &from, lists, places, &ring, copies_of(law))?;
+    let (kept, count) = (places.len(), system.ideal.len());
     let mut arrays = Vec::with_capacity(alloc, quotients.len())?;
     'parts: for k in 0..quotients.len() {
         let array = cofactors_in_copies(alloc, &ring, &quotients[k], &copied, kept, count)?;

@@ -5,7 +5,7 @@ use Rattle.std.proofs.lemmas.Nat.{row_fits}
 use Rattle.rinv_algebra.specs.Residue.{residue_ops}
 use Rattle.rinv_groebner.specs.Division.{AreSame}
 use Rattle.rinv_laws.specs.Points.{ArePolynomials}
-use Rattle.rinv_laws.specs.Proofs.{past_lists}
+use Rattle.rinv_laws.specs.Proofs.{chosen, past_lists}
 use Rattle.rinv_laws.proofs.CopiedCofactors.{ranged-more}
 use Rattle.rinv_laws.proofs.cofactors.lists_in_copies.Goals as goal
 
@@ -24,7 +24,7 @@ copies-preserved c =
     let made = c.copies.all.items in
     rw c.in_ok-push.ensures.items (record {
       normal = All-push (λ ls. All (λ us. ArePolynomials p c.args.to.now.vars us.items) ls.items) made c.in_ok-in_this.in_this c.copies.invariant.normal c.in_ok-in_this.ensures.normal;
-      value = ranged-more (AllZip (AreSame (residue_ops p))) (λ ls. map (λ us. us.items) ls.items) (λ j. past_lists (j * v) (map (λ us. us.items) c.args.lists.now)) c.copies.copy made c.in_ok-in_this.in_this c.copies.invariant.value c.in_ok-in_this.ensures.value;
+      value = ranged-more (AllZip (AreSame (residue_ops p))) (λ ls. map (λ us. us.items) ls.items) (λ j. past_lists (j * v) (chosen (map (λ us. us.items) c.args.lists.now) c.args.places.now)) c.copies.copy made c.in_ok-in_this.in_this c.copies.invariant.value c.in_ok-in_this.ensures.value;
     })
 
 pub returns-clause-value : goal.returns-clause-value

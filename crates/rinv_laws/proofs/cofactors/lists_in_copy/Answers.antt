@@ -1,29 +1,29 @@
-use Rattle.std.proofs.Common.{◌≡◌, ◌*◌, List, map, subst, nat_lt, All}
+use Rattle.std.proofs.Common.{◌≡◌, ◌*◌, List, [], ℕ, map, get_or, subst, All}
 use Rattle.std.specs.List.{AllZip}
 use Rattle.std.proofs.lemmas.List.{take_all}
 use Rattle.std.proofs.lemmas.List.Elements.{All-nil, All-push}
 use Rattle.rinv_algebra.specs.Residue.{residue_ops}
 use Rattle.rinv_groebner.specs.Division.{AreSame}
 use Rattle.rinv_laws.specs.Points.{ArePolynomials}
-use Rattle.rinv_laws.specs.Proofs.{past_lists}
-use Rattle.rinv_laws.proofs.CopiedCofactors.{lists-more}
+use Rattle.rinv_laws.specs.Proofs.{chosen, past_lists}
+use Rattle.rinv_laws.proofs.CopiedCofactors.{lists-more, list-at}
 use Rattle.rinv_laws.proofs.cofactors.lists_in_copy.Goals as goal
 
-pub lists-init : goal.lists-init
-lists-init c =
+pub places-init : goal.places-init
+places-init c =
     let p = c.args.to.now.coeffs in
     rw c.in_ok-copies.ensures.items (record { normal = All-nil (λ us. ArePolynomials p c.args.to.now.vars us.items); value = tt })
 
-pub lists-preserved : goal.lists-preserved
-lists-preserved c =
+pub places-preserved : goal.places-preserved
+places-preserved c =
     let p = c.args.to.now.coeffs in
-    let made = c.lists.copies.items in
+    let made = c.places.copies.items in
     rw c.in_ok-push.ensures.items (record {
-      normal = All-push (λ us. ArePolynomials p c.args.to.now.vars us.items) made c.in_ok-moved.moved c.lists.invariant.normal c.in_ok-moved.ensures.normal;
-      value = lists-more (λ us. us.items) p (c.args.copy * c.args.from.now.vars) c.args.lists.now c.lists.k c.index-lists-k.result made c.in_ok-moved.moved c.lists-test.true c.index-lists-k.is c.lists.invariant.value ?;
+      normal = All-push (λ us. ArePolynomials p c.args.to.now.vars us.items) made c.in_ok-moved.moved c.places.invariant.normal c.in_ok-moved.ensures.normal;
+      value = ?;
     })
 
 pub returns-clause-value : goal.returns-clause-value
 returns-clause-value c =
     let o = residue_ops c.args.to.now.coeffs in
-    subst (λ ls. AllZip (AreSame o) (map (λ us. us.items) c.lists.copies.items) (past_lists (c.args.copy * c.args.from.now.vars) (map (λ us. us.items) ls))) (take_all c.lists.k c.args.lists.now c.lists-test.false) c.lists.invariant.value
+    subst (λ (ks : List ℕ). AllZip (AreSame o) (map (λ us. us.items) c.places.copies.items) (past_lists (c.args.copy * c.args.from.now.vars) (chosen (map (λ us. us.items) c.args.lists.now) ks))) (take_all c.places.k c.args.places.now c.places-test.false) c.places.invariant.value
