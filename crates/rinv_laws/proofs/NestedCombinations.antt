@@ -88,7 +88,7 @@ module _ {E : Type 0} (o : RingOps E) (l : RingLaws o) where
       → ((j m : ℕ) → j < c → m < length fs → IsSame (poly_ops o) (get_or us (j * length fs + m) []) (combination o (take (length lists) (drop (j * length lists) qs)) (column (map (λ us. map (past (j * v)) us) lists) m)))
       → IsSame (poly_ops o) (combination o us (copies c v fs)) (combination o qs (copies c v hs))
   copies-combination c v fs hs us qs lists s rule =
-      subst₂ (λ (as bs : List (Polynomial E)). IsSame (poly_ops o) (combination o as (copies c v fs)) (combination o bs (copies c v hs))) (from_start (length fs) us) (from_start (length lists) qs)
+      subst₂ (λ (ws rs : List (Polynomial E)). IsSame (poly_ops o) (combination o ws (copies c v fs)) (combination o rs (copies c v hs))) (from_start (length fs) us) (from_start (length lists) qs)
       (flat-combination (length fs) (length lists) (λ j. map (past (j * v)) fs) (λ j. map (past (j * v)) hs) (λ j. length-map fs (past (j * v))) (λ j. length-map hs (past (j * v)) ∙ long) us qs c 0 (λ j low. in_one j (omega (arith, low))))
     where
       from_start : (n : ℕ) (ws : List (Polynomial E)) → drop (0 * n) ws ≡ ws
@@ -105,7 +105,7 @@ module _ {E : Type 0} (o : RingOps E) (l : RingLaws o) where
           let moved = map (λ us. map (past (j * v)) us) lists in
           facts.then (poly_ops o) (poly_laws o l)
           (column-sums o l given quotients own moved (λ m inside.
-              let m_low : m < length fs = omega (arith, inside, length-map fs (past (j * v))) in
-              subst (λ (f : Polynomial E). IsSame (poly_ops o) f (combination o quotients (column moved m)))
-              (sym (get_or-take (length fs) (drop (j * length fs) us) m [] m_low ∙ get_or-drop (j * length fs) us m [])) (rule j m low m_low)))
+          let m_low : m < length fs = omega (arith, inside, length-map fs (past (j * v))) in
+          subst (λ (f : Polynomial E). IsSame (poly_ops o) f (combination o quotients (column moved m)))
+          (sym (get_or-take (length fs) (drop (j * length fs) us) m [] m_low ∙ get_or-drop (j * length fs) us m [])) (rule j m low m_low)))
           ((poly_laws o l).same_sym _ _ (combination-right o l quotients (map (past (j * v)) hs) (map (λ us. combination o us given) moved) (past-sums (j * v) fs hs lists s)))
