@@ -4,4 +4,5 @@ pub mod GroupFacts
 pub mod NestedCombinations
 pub mod CopiedCofactors
 pub mod ProvedLaws
+pub mod LawCofactors
 pub mod BasisOver
