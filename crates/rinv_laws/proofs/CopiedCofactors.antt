@@ -4,7 +4,7 @@
 --   copies-meet          a product with a cofactor made is one with the cofactor's copy
 --   products-meet, copy-meets    the degrees that are met
 --   lists-more, ranged-more, copies-more    one list, one place, one copy more
-use Rattle.std.proofs.Common.{◌≡◌, ◌⊎◌, inl, inr, ℕ, zero, suc, ◌+◌, ◌*◌, ◌<◌, ◌≤◌, true, List, [], ◌∷◌, ◌++◌, length, length-append, get_or, take, drop, map, All, refl, sym, ◌∙◌, ap, subst, subst₂, nat_lt, arith}
+use Rattle.std.proofs.Common.{◌≡◌, ◌⊎◌, inl, inr, ℕ, zero, suc, ◌+◌, ◌*◌, ◌<◌, ◌≤◌, not, true, true≢false, List, [], ◌∷◌, ◌++◌, length, length-append, get_or, take, drop, map, All, refl, sym, ◌∙◌, ap, subst, subst₂, nat_lt, arith}
 use Rattle.std.specs.List.{range_with_len, AllZip}
 use Rattle.std.proofs.lemmas.Bool.{cases_lt}
 use Rattle.std.proofs.lemmas.List.{length-map, length-take, map_push, get_or-map, get_or-take, get_or-drop, get_or_past, get_or_append_left, get_or-append-add}
@@ -62,10 +62,10 @@ cofactor-past v (us ∷ lists) zero m = entry-past v us m
 cofactor-past v (us ∷ lists) (suc k) m = cofactor-past v lists k m
 
 -- a copy, of the copies that were made
-pub same-copy : {X Y : Type 0} (R : X → Y → Type 0) (d : X) (e : Y) (F : ℕ → Y) (c : ℕ) (xs : List X) → AllZip R xs (map F (range_with_len 0 c)) → (j : ℕ) → j < c → R (get_or xs j d) (F j)
+pub same-copy : {X : Type 0} (R : X → X → Type 0) (d e : X) (F : ℕ → X) (c : ℕ) (xs : List X) → AllZip R xs (map F (range_with_len 0 c)) → (j : ℕ) → j < c → R (get_or xs j d) (F j)
 same-copy R d e F c xs s j low =
     let long : length xs ≡ c = length_all_zip R xs (map F (range_with_len 0 c)) s ∙ length-map (range_with_len 0 c) F ∙ length-range_with_len 0 c in
-    subst (R (get_or xs j d)) (get_or-map-range_with_len F 0 c j j e low refl) (AllZip-get_or R xs (map F (range_with_len 0 c)) j d e s (omega (arith, low, long)))
+    subst (R (get_or xs j d)) (get_or-map-range_with_len F 0 c j j e low (omega arith)) (AllZip-get_or R xs (map F (range_with_len 0 c)) j d e s (omega (arith, low, long)))
 
 module _ (p v c n count : ℕ) (F G : ℕ → List (List Poly)) (s : (j : ℕ) → j < c → AllZip (AreSame (residue_ops p)) (F j) (G j)) (qs : List Poly) where
   -- cofactors by the copies made are cofactors by the copies
@@ -80,7 +80,7 @@ module _ (p v c n count : ℕ) (F G : ℕ → List (List Poly)) (s : (j : ℕ) �
 -- zero has no monomial
 no-product : (p : ℕ) (f : Poly) (x y : ℕ) → MonomialsMeet (residue_ops p) [] f x y → ⊥
 unfolding coefficient
-no-product p f x y m = absurd m.left.has
+no-product p f x y m = true≢false (sym m.left.has ∙ ap not ((residue_laws p).same_refl ((residue_ops p).zero)))
 
 -- a quotient in a copy is one of all
 pub quotient-of : (p count j k : ℕ) (qs : List Poly) (f : Poly) (x y : ℕ) → MonomialsMeet (residue_ops p) (get_or (quotients_in count qs j) k []) f x y → (k < count) × MonomialsMeet (residue_ops p) (get_or qs (j * count + k) []) f x y
@@ -105,9 +105,9 @@ pub list-at : {W : Type 0} (view : W → List Poly) (lists : List W) (place : �
 list-at view lists place w low at = ap view at ∙ sym (get_or-map view lists place w [] low)
 
 -- one more of a range
-pub ranged-more : {W X Y : Type 0} (R : X → Y → Type 0) (view : W → X) (F : ℕ → Y) (j : ℕ) (made : List W) (w : W) → AllZip R (map view made) (map F (range_with_len 0 j)) → R (view w) (F j) → AllZip R (map view (made ++ w ∷ [])) (map F (range_with_len 0 (j + 1)))
+pub ranged-more : {W X : Type 0} (R : X → X → Type 0) (view : W → X) (F : ℕ → X) (j : ℕ) (made : List W) (w : W) → AllZip R (map view made) (map F (range_with_len 0 j)) → R (view w) (F j) → AllZip R (map view (made ++ w ∷ [])) (map F (range_with_len 0 (j + 1)))
 ranged-more R view F j made w so_far here =
-    subst₂ (AllZip R) (sym (map_push view made w)) (sym (map-range_with_len_more F 0 j j refl))
+    subst₂ (AllZip R) (sym (map_push view made w)) (sym (map-range_with_len_more F 0 j j (omega arith)))
     (AllZip-push R (map view made) (map F (range_with_len 0 j)) (view w) (F j) so_far here)
 
 -- one copy more
@@ -143,7 +143,7 @@ module _ (p v n count : ℕ) (F : ℕ → List (List Poly)) (qs : List Poly) whe
 pub products-meet : (p : ℕ) (qs : List Poly) (lists : List (List Poly)) (m : ℕ) (fault : RingFault) → DegreesMeet (ColumnMeets (residue_ops p) never qs lists m) fault → DegreesMeet (ProductsMeet p qs lists) fault
 products-meet p qs lists m fault meets = meet-weaker (ColumnMeets (residue_ops p) never qs lists m) (ProductsMeet p qs lists) (λ x y h. elim h [
   | inl (k, at) ↦ record { element = k; given = m; meets = at }
-  | inr (op, a, b, no) ↦ absurd no
+  | inr (op, (a, b, none)) ↦ absurd none
 ]) fault meets
 
 -- and those that one copy meets

@@ -1,12 +1,13 @@
 -- The proofs of the laws, from the cofactors of the kept elements and the quotients of the parts.
 --   chosen-keep          lists at the places of the kept elements are their cofactors
---   quotients-number     a part has as many quotients as there are lists in all copies
+--   all-viewed           what all have, seen in another way
+--   quotients-number, all-many    a part has as many quotients as there are lists in all copies
 --   law-proved           the cofactors over the copies prove the law
 --   copies-making, making-meets    the degrees that are met
 use Rattle.std.proofs.Common.{◌≡◌, ℕ, ◌+◌, ◌*◌, ◌<◌, List, [], ◌∷◌, length, get_or, map, All, IsTrue, refl, sym, ◌∙◌, ap, subst, arith}
 use Rattle.std.specs.List.{range_with_len, AllZip}
 use Rattle.std.proofs.lemmas.List.{length-map}
-use Rattle.std.proofs.lemmas.List.Elements.{length_all_zip, All-head, All-tail, All-map, All-weaker, All-get_or}
+use Rattle.std.proofs.lemmas.List.Elements.{length_all_zip, All-nil, All-cons, All-head, All-tail, All-map, All-weaker, All-get_or, All-from_get_or}
 use Rattle.std.proofs.lemmas.List.FromFn.{length-range_with_len}
 use Rattle.rinv_algebra.specs.Ring.{RingOps, RingLaws, IsSame}
 use Rattle.rinv_algebra.specs.Residue.{residue_ops}
@@ -68,6 +69,11 @@ chosen-keep s found all places p v fs a b c made =
           (chosen-sums (residue_ops s.p) s.ideal found.polys all own.sums_up places own.inside);
     }
 
+-- what all have, seen in another way
+pub all-viewed : {X Y : Type 0} (P : Y → Type 0) (f : X → Y) (xs : List X) → All P (map f xs) → All (λ x. P (f x)) xs
+all-viewed P f [] h = All-nil (λ x. P (f x))
+all-viewed P f (x ∷ xs) h = All-cons (λ x. P (f x)) x xs (All-head P (f x) (map f xs) h) (all-viewed P f xs (All-tail P (f x) (map f xs) h))
+
 -- ---- a law
 
 module _ (s : System) (law : Law) (lists : List (List Poly)) where
@@ -103,6 +109,9 @@ module _ (s : System) (law : Law) (lists : List (List Poly)) where
         ∙ length-map (range_with_len 0 (length d.hs)) (quotient_at d.steps) ∙ length-range_with_len 0 (length d.hs)
         ∙ length_all_zip (IsSame (poly_ops (residue_ops s.p))) d.hs (kept_copies s found (copies law)) d.asked.basis
         ∙ copies-length (copies law) (group_count s) (kept_elements s found) ∙ ap (λ (n : ℕ). copies law * n) kept-number
+
+    pub all-many : (quotients : List (List Poly)) → AreQuotients s found law quotients → All (λ qs. length qs ≡ copies law * length lists) quotients
+    all-many quotients q = All-from_get_or (λ qs. length qs ≡ copies law * length lists) quotients [] (λ k low. let (rest, d, nothing) = q.each k low in quotients-number k (get_or quotients k []) rest d)
 
     -- the cofactors over the copies prove a part
     part-proved : (k : ℕ) (qs us : List Poly) (rest : Poly) → DividesPart s found law k qs rest → IsTrue (is_zero (residue_ops s.p) rest)

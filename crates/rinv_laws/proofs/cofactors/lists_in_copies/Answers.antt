@@ -15,7 +15,7 @@ copies-init c =
     rw c.new-all.ensures.items (record { normal = All-nil (λ ls. All (λ us. ArePolynomials p c.args.to.now.vars us.items) ls.items); value = tt })
 
 pub lists_in_copy-requires-clause-inside : goal.lists_in_copy-requires-clause-inside
-lists_in_copy-requires-clause-inside c = ?
+lists_in_copy-requires-clause-inside c = omega (arith, row_fits c.copies.copy c.args.from.now.vars c.args.copies c.args.from.now.vars c.copies-test.true (omega arith), c.requires.inside)
 
 pub copies-preserved : goal.copies-preserved
 copies-preserved c =
@@ -28,4 +28,7 @@ copies-preserved c =
     })
 
 pub returns-clause-value : goal.returns-clause-value
-returns-clause-value c = ?
+returns-clause-value c =
+    let o = residue_ops c.args.to.now.coeffs in
+    let whole : c.copies.copy ≡ c.args.copies = omega (arith, c.copies-test.false, c.copies.auto.copy-end) in
+    subst (λ (n : ℕ). AllZip (AllZip (AreSame o)) (map (λ ls. map (λ us. us.items) ls.items) c.copies.all.items) (map (λ j. past_lists (j * c.args.from.now.vars) (chosen (map (λ us. us.items) c.args.lists.now) c.args.places.now)) (range_with_len 0 n))) whole c.copies.invariant.value
