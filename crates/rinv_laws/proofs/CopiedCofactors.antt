@@ -1,10 +1,11 @@
 -- Lists of cofactors in copies of their variables, and sums of products by them.
 --   same-copy            a copy, of the copies that were made
 --   over-copies          cofactors by the copies made are cofactors by the copies
---   copies-meet          a product with a cofactor made is one with the cofactor's copy
+--   part-of, list-at      the quotients in a copy, the list at a place
+--   quotient-of          a product with a cofactor made is one with the cofactor's copy
 --   products-meet, copy-meets    the degrees that are met
 --   lists-more, ranged-more, copies-more    one list, one place, one copy more
-use Rattle.std.proofs.Common.{◌≡◌, ◌⊎◌, inl, inr, ℕ, zero, suc, ◌+◌, ◌*◌, ◌<◌, ◌≤◌, not, true, true≢false, List, [], ◌∷◌, ◌++◌, length, length-append, get_or, take, drop, map, All, refl, sym, ◌∙◌, ap, subst, subst₂, nat_lt, arith}
+use Rattle.std.proofs.Common.{◌≡◌, ◌⊎◌, inl, inr, ℕ, zero, suc, ◌+◌, ◌-◌, ◌*◌, ◌<◌, ◌≤◌, not, true, true≢false, List, [], ◌∷◌, ◌++◌, length, length-append, get_or, take, drop, map, All, refl, sym, ◌∙◌, ap, subst, subst₂, nat_lt, arith}
 use Rattle.std.specs.List.{range_with_len, AllZip}
 use Rattle.std.proofs.lemmas.Bool.{cases_lt}
 use Rattle.std.proofs.lemmas.List.{length-map, length-take, map_push, get_or-map, get_or-take, get_or-drop, get_or_past, get_or_append_left, get_or-append-add}
@@ -82,6 +83,13 @@ no-product : (p : ℕ) (f : Poly) (x y : ℕ) → MonomialsMeet (residue_ops p) 
 unfolding coefficient
 no-product p f x y m = true≢false (sym m.left.has ∙ ap not ((residue_laws p).same_refl ((residue_ops p).zero)))
 
+-- the quotients in a copy, as a part of all
+pub part-of : (count j : ℕ) (qs : List Poly) → take (j * count + count - j * count) (drop (j * count) qs) ≡ quotients_in count qs j
+part-of count j qs = ap (λ (n : ℕ). take n (drop (j * count) qs)) (size (j * count) count)
+  where
+    size : (a b : ℕ) → a + b - a ≡ b
+    size a b = omega arith
+
 -- a quotient in a copy is one of all
 pub quotient-of : (p count j k : ℕ) (qs : List Poly) (f : Poly) (x y : ℕ) → MonomialsMeet (residue_ops p) (get_or (quotients_in count qs j) k []) f x y → (k < count) × MonomialsMeet (residue_ops p) (get_or qs (j * count + k) []) f x y
 quotient-of p count j k qs f x y m = elim (cases_lt k count) [
@@ -101,8 +109,8 @@ lists-more view p v all places k place made u low at so_far here =
     (AllZip-push (AreSame (residue_ops p)) (map view made) (past_lists v (chosen all (take k places))) (view u) (map (past v) (get_or all place [])) so_far here)
 
 -- the list at a place
-pub list-at : {W : Type 0} (view : W → List Poly) (lists : List W) (place : ℕ) (w : W) → place < length lists → w ≡ get_or lists place w → view w ≡ get_or (map view lists) place []
-list-at view lists place w low at = ap view at ∙ sym (get_or-map view lists place w [] low)
+pub list-at : {W X : Type 0} (view : W → X) (d : X) (lists : List W) (place : ℕ) (w : W) → place < length lists → w ≡ get_or lists place w → view w ≡ get_or (map view lists) place d
+list-at view d lists place w low at = ap view at ∙ sym (get_or-map view lists place w d low)
 
 -- one more of a range
 pub ranged-more : {W X : Type 0} (R : X → X → Type 0) (view : W → X) (F : ℕ → X) (j : ℕ) (made : List W) (w : W) → AllZip R (map view made) (map F (range_with_len 0 j)) → R (view w) (F j) → AllZip R (map view (made ++ w ∷ [])) (map F (range_with_len 0 (j + 1)))

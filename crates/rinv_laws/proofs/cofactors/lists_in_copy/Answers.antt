@@ -26,7 +26,7 @@ places-preserved c =
       value = lists-more (λ us. us.items) p (c.args.copy * c.args.from.now.vars) (map (λ us. us.items) c.args.lists.now) c.args.places.now c.places.k place made c.in_ok-moved.moved c.places-test.true
           (get_or_default c.args.places.now c.places.k 0 place c.places-test.true) c.places.invariant.value
           (subst (λ (us : List Poly). AreSame (residue_ops p) c.in_ok-moved.moved.items (map (past (c.args.copy * c.args.from.now.vars)) us))
-          (c.deref.ensures.value ∙ list-at (λ us. us.items) c.args.lists.now place c.index-lists-places.result (c.requires.places c.places.k 0 c.places-test.true) c.index-lists-places.is) c.in_ok-moved.ensures.value);
+          (c.deref.ensures.value ∙ list-at (λ us. us.items) [] c.args.lists.now place c.index-lists-places.result (c.requires.places c.places.k 0 c.places-test.true) c.index-lists-places.is) c.in_ok-moved.ensures.value);
     })
 
 pub returns-clause-value : goal.returns-clause-value
