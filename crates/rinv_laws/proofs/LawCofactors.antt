@@ -1,10 +1,16 @@
 -- The cofactors that are made for a law, in its ring, are those of its parts.
 --   OfLaw                the ring and the numbers are the law's
 --   copies-inside        its ring has the copies of the group's variables
+--   made-number, made-kept, made-lengths    how long the lists are that were made
 --   law-made, law-meets  the cofactors by the copies that were made, and the degrees that they meet
-use Rattle.std.proofs.Common.{◌≡◌, ℕ, ◌*◌, ◌<◌, ◌≤◌, List, [], length, get_or, map, sym, subst, arith}
+use Rattle.std.proofs.Common.{◌≡◌, ℕ, zero, suc, ◌+◌, ◌*◌, ◌<◌, ◌≤◌, List, [], ◌∷◌, length, get_or, map, All, sym, ◌∙◌, subst, arith}
 use Rattle.std.specs.List.{range_with_len, AllZip}
+use Rattle.std.proofs.lemmas.List.{length-map}
+use Rattle.std.proofs.lemmas.List.Elements.{All-nil, All-cons, All-head, All-tail, length_all_zip}
+use Rattle.std.proofs.lemmas.List.FromFn.{length-range_with_len}
+use Rattle.rinv_algebra.specs.Ring.{IsSame}
 use Rattle.rinv_algebra.specs.Residue.{residue_ops}
+use Rattle.rinv_algebra.specs.Polynomial.{poly_ops, past}
 use Rattle.rinv_groebner.specs.Division.{AreSame}
 use Rattle.rinv_ring.specs.Fault.{DegreesMeet}
 use Rattle.rinv_ring.specs.declared.fault.RingFault.{RingFault}
@@ -28,6 +34,36 @@ pub record OfLaw (s : System) (law : Law) (lists : List (List Poly)) (p v w c n 
 -- its ring has the copies of the group's variables
 pub copies-inside : (s : System) (law : Law) (c w v : ℕ) → c ≡ copies law → w ≡ group_count s → v ≡ variables_of s law → c * w ≤ v
 copies-inside s law c w v a b d = subst (λ (k : ℕ). c * w ≤ k) (sym d) (subst (λ (k : ℕ). k * w ≤ variables_of s law) (sym a) (subst (λ (k : ℕ). copies law * k ≤ variables_of s law) (sym b) (omega arith)))
+
+-- ---- the lists that were made
+
+lists-length : {W : Type 0} (view : W → List Poly) (p v n : ℕ) (lists : List (List Poly)) (ws : List W) → AllZip (AreSame (residue_ops p)) (map view ws) (past_lists v lists) → All (λ us. length us ≡ n) lists → All (λ w. length (view w) ≡ n) ws
+lists-length view p v n lists [] same h = All-nil (λ w. length (view w) ≡ n)
+lists-length view p v n [] (w ∷ ws) same h = absurd same
+lists-length view p v n (us ∷ lists) (w ∷ ws) same h = All-cons (λ w. length (view w) ≡ n) w ws
+    (length_all_zip (IsSame (poly_ops (residue_ops p))) (view w) (map (past v) us) same.0 ∙ length-map us (past v) ∙ All-head (λ us. length us ≡ n) us lists h)
+    (lists-length view p v n lists ws same.1 (All-tail (λ us. length us ≡ n) us lists h))
+
+module _ {V W : Type 0} (view : W → List Poly) (inner : V → List W) (p w : ℕ) (lists : List (List Poly)) where
+  abbrev AreMade : ℕ → ℕ → List V → Type 0
+  AreMade s c xs = AllZip (AllZip (AreSame (residue_ops p))) (map (λ x. map view (inner x)) xs) (map (λ j. past_lists (j * w) lists) (range_with_len s c))
+
+  pub made-number : (c : ℕ) (xs : List V) → AreMade 0 c xs → length xs ≡ c
+  made-number c xs same =
+      sym (length-map xs (λ x. map view (inner x))) ∙ length_all_zip (AllZip (AreSame (residue_ops p))) (map (λ x. map view (inner x)) xs) (map (λ j. past_lists (j * w) lists) (range_with_len 0 c)) same
+      ∙ length-map (range_with_len 0 c) (λ j. past_lists (j * w) lists) ∙ length-range_with_len 0 c
+
+  pub made-kept : (s c : ℕ) (xs : List V) → AreMade s c xs → All (λ x. length (inner x) ≡ length lists) xs
+  made-kept s c [] same = All-nil (λ x. length (inner x) ≡ length lists)
+  made-kept s zero (x ∷ xs) same = absurd same
+  made-kept s (suc c) (x ∷ xs) same = All-cons (λ x. length (inner x) ≡ length lists) x xs
+      (sym (length-map (inner x) view) ∙ length_all_zip (AreSame (residue_ops p)) (map view (inner x)) (past_lists (s * w) lists) same.0 ∙ length-map lists (λ us. map (past (s * w)) us))
+      (made-kept (s + 1) c xs same.1)
+
+  pub made-lengths : (n s c : ℕ) (xs : List V) → AreMade s c xs → All (λ us. length us ≡ n) lists → All (λ x. All (λ u. length (view u) ≡ n) (inner x)) xs
+  made-lengths n s c [] same h = All-nil (λ x. All (λ u. length (view u) ≡ n) (inner x))
+  made-lengths n s zero (x ∷ xs) same h = absurd same
+  made-lengths n s (suc c) (x ∷ xs) same h = All-cons (λ x. All (λ u. length (view u) ≡ n) (inner x)) x xs (lists-length view p (s * w) n lists (inner x) same.0 h) (made-lengths n (s + 1) c xs same.1 h)
 
 module _ (s : System) (law : Law) (lists : List (List Poly)) (p v w c n count : ℕ) (e : OfLaw s law lists p v w c n count) (views : List (List (List Poly)))
     (same : AllZip (AllZip (AreSame (residue_ops p))) views (map (λ j. past_lists (j * w) lists) (range_with_len 0 c))) where

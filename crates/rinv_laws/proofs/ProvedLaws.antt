@@ -53,7 +53,7 @@ pub record AreCombined (found : Found ℕ) (all : List (List Poly)) (places : Li
   pub inside : All (λ k. k < length found.polys) places
   pub kept : map (λ k. get_or found.polys k []) places ≡ kept_of (residue_ops p) grevlex found.polys
 
-chosen-all : {X : Type 0} (P : X → Type 0) (d : X) (all : List X) (n : ℕ) (places : List ℕ) → length all ≡ n → All P all → All (λ k. k < n) places → All P (map (λ k. get_or all k d) places)
+pub chosen-all : {X : Type 0} (P : X → Type 0) (d : X) (all : List X) (n : ℕ) (places : List ℕ) → length all ≡ n → All P all → All (λ k. k < n) places → All P (map (λ k. get_or all k d) places)
 chosen-all P d all n places long h inside = All-map P (λ k. get_or all k d) places (All-weaker (λ k. k < n) (λ k. P (get_or all k d)) (λ k low. All-get_or P all k d (omega (arith, low, long)) h) places inside)
 
 pub chosen-keep : (s : System) (found : Found ℕ) (all : List (List Poly)) (places : List ℕ) (p v : ℕ) (fs : List Poly) → p ≡ s.p → v ≡ group_count s → fs ≡ s.ideal → AreCombined found all places p v fs

@@ -22,7 +22,7 @@ copies-preserved c =
     let k = c.copies.copy in
     let sums = c.in_ok-sums.sums.items in
     let here : map (λ us. us.items) c.deref.result.now ≡ F k =
-        ap (λ us. map (λ us. us.items) us) c.deref.ensures.value ∙ list-at (λ ls. map (λ us. us.items) ls.items) [] c.args.copies.now k c.index-copies-copy.result c.copies-test.true c.index-copies-copy.is in
+    ap (λ us. map (λ us. us.items) us) c.deref.ensures.value ∙ list-at (λ ls. map (λ us. us.items) ls.items) [] c.args.copies.now k c.index-copies-copy.result c.copies-test.true c.index-copies-copy.is in
     rw c.in_ok-cofactors.ensures (copies-more p c.args.ring.now.vars c.args.count c.args.kept F c.args.quotients.now k c.copies.cofactors.items sums c.copies.invariant c.in_ok-sums.ensures.number c.in_ok-sums.ensures.normal
     (λ m low. subst₂ (λ (qs : List Poly) (ls : List (List Poly)). IsSame (poly_ops o) (get_or sums m []) (combination o qs (column ls m))) (part-of c.args.kept k c.args.quotients.now) here (c.in_ok-sums.ensures.rule m low)))
 
@@ -32,7 +32,7 @@ returns-in_err-sums-clause-degree c =
     let F : ℕ → List (List Poly) = λ j. get_or (map (λ ls. map (λ us. us.items) ls.items) c.args.copies.now) j [] in
     let k = c.copies.copy in
     let here : map (λ us. us.items) c.deref.result.now ≡ F k =
-        ap (λ us. map (λ us. us.items) us) c.deref.ensures.value ∙ list-at (λ ls. map (λ us. us.items) ls.items) [] c.args.copies.now k c.index-copies-copy.result c.copies-test.true c.index-copies-copy.is in
+    ap (λ us. map (λ us. us.items) us) c.deref.ensures.value ∙ list-at (λ ls. map (λ us. us.items) ls.items) [] c.args.copies.now k c.index-copies-copy.result c.copies-test.true c.index-copies-copy.is in
     let own = take (k * c.args.kept + c.args.kept - k * c.args.kept) (drop (k * c.args.kept) c.args.quotients.now) in
     let q = err_from_is_err_and c.from_residual.result c.from_residual.ensures.1 in
     rw (q.1, q.2) (copy-meets p (length c.args.copies.now) c.args.kept F c.args.quotients.now own k c.copies-test.true (part-of c.args.kept k c.args.quotients.now)
