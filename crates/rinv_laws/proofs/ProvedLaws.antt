@@ -28,7 +28,7 @@ use Rattle.rinv_buch.specs.Combining.{Combines, cofactor}
 use Rattle.rinv_buch.proofs.CombinedSums.{combination-right}
 use Rattle.rinv_defs.specs.System.{System, Poly, group_count, ideal_copies}
 use Rattle.rinv_defs.specs.Laws.{Law, copies, parts}
-use Rattle.rinv_laws.specs.LawNames.{variables_of}
+use Rattle.rinv_laws.specs.LawNames.{rank, variables_of}
 use Rattle.rinv_laws.specs.Points.{ArePolynomials}
 use Rattle.rinv_laws.specs.Copied.{AreQuotients, DividesPart, kept_copies, part_at}
 use Rattle.rinv_laws.specs.Proofs.{AreInCopies, AreMadeOf, CofactorMeets, CopiesMeet, KeepCofactors, MakingMeets, chosen, ProvesLaw, ProvesPart, in_copy, kept_elements}
@@ -68,6 +68,17 @@ chosen-keep s found all places p v fs a b c made =
       sums_up = subst (λ (hs : List Poly). AreSame (residue_ops s.p) hs (map (λ us. combination (residue_ops s.p) us s.ideal) (map (λ k. get_or all k []) places))) own.kept
           (chosen-sums (residue_ops s.p) s.ideal found.polys all own.sums_up places own.inside);
     }
+
+-- each law has a place among the eight
+pub rank-inside : (law : Law) → rank law < 8
+rank-inside Law.L1 = omega arith
+rank-inside Law.L2 = omega arith
+rank-inside Law.L3 = omega arith
+rank-inside Law.L4 = omega arith
+rank-inside Law.L5 = omega arith
+rank-inside Law.L6 = omega arith
+rank-inside Law.A1 = omega arith
+rank-inside Law.A2 = omega arith
 
 -- what all have, seen in another way
 pub all-viewed : {X Y : Type 0} (P : Y → Type 0) (f : X → Y) (xs : List X) → All P (map f xs) → All (λ x. P (f x)) xs
