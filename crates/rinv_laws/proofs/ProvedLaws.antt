@@ -1,5 +1,6 @@
 -- The proofs of the laws, from the cofactors of the kept elements and the quotients of the parts.
 --   chosen-keep          lists at the places of the kept elements are their cofactors
+--   stops-weaker, rank-inside    a stop by more degrees; places of laws
 --   all-viewed           what all have, seen in another way
 --   quotients-number, all-many    a part has as many quotients as there are lists in all copies
 --   law-proved           the cofactors over the copies prove the law
@@ -28,9 +29,12 @@ use Rattle.rinv_buch.specs.Combining.{Combines, cofactor}
 use Rattle.rinv_buch.proofs.CombinedSums.{combination-right}
 use Rattle.rinv_defs.specs.System.{System, Poly, group_count, ideal_copies}
 use Rattle.rinv_defs.specs.Laws.{Law, copies, parts}
+use Rattle.rinv_laws.specs.declared.stop.LawStop.{LawStop}
+use Rattle.rinv_laws.specs.declared.stop.LawStop.TheVariants.{Fault, Degree, NoMemory}
 use Rattle.rinv_laws.specs.LawNames.{rank, variables_of}
 use Rattle.rinv_laws.specs.Points.{ArePolynomials}
 use Rattle.rinv_laws.specs.Copied.{AreQuotients, DividesPart, kept_copies, part_at}
+use Rattle.rinv_laws.specs.Faults.{LawStopsSo}
 use Rattle.rinv_laws.specs.Proofs.{AreInCopies, AreMadeOf, CofactorMeets, CopiesMeet, KeepCofactors, MakingMeets, chosen, ProvesLaw, ProvesPart, in_copy, kept_elements}
 use Rattle.rinv_laws.proofs.NestedCombinations.{copies-combination, copies-length}
 use Rattle.rinv_laws.proofs.CopiedCofactors.{cofactor-past, entries-same, quotient-of}
@@ -68,6 +72,12 @@ chosen-keep s found all places p v fs a b c made =
       sums_up = subst (λ (hs : List Poly). AreSame (residue_ops s.p) hs (map (λ us. combination (residue_ops s.p) us s.ideal) (map (λ k. get_or all k []) places))) own.kept
           (chosen-sums (residue_ops s.p) s.ideal found.polys all own.sums_up places own.inside);
     }
+
+-- a stop by more degrees
+pub stops-weaker : (s : System) (P Q : ℕ → ℕ → Type 0) → ((x y : ℕ) → P x y → Q x y) → (e : LawStop) → LawStopsSo s P e → LawStopsSo s Q e
+stops-weaker s P Q more (Fault f) h = h
+stops-weaker s P Q more (Degree x y) h = more x y h
+stops-weaker s P Q more NoMemory h = h
 
 -- each law has a place among the eight
 pub rank-inside : (law : Law) → rank law < 8

@@ -37,7 +37,7 @@ cofactors_in_copies-requires-clause-many c =
     let same = c.in_ok-copied.ensures.value in
     let number : length c.deref-in-parts.result.now ≡ copies law = ap (λ ls. length ls) c.deref-in-parts.ensures.value ∙ made-number (λ us. us.items) (λ ls. ls.items) c.new-ring.result.coeffs c.new-from.result.vars lists c.copies_of.result made same ∙ c.copies_of.ensures in
     let own : length c.index-quotients-k.result.items ≡ copies law * length c.args.places.now =
-        subst (λ qs. length qs.items ≡ copies law * length c.args.places.now) (sym c.index-quotients-k.is) (c.requires.many c.parts.k c.index-quotients-k.result c.parts-test.true) in
+    subst (λ qs. length qs.items ≡ copies law * length c.args.places.now) (sym c.index-quotients-k.is) (c.requires.many c.parts.k c.index-quotients-k.result c.parts-test.true) in
     ap (λ (qs : List Poly). length qs) c.deref.ensures.value ∙ own ∙ ap (λ (n : ℕ). n * length c.args.places.now) (sym number)
 
 pub cofactors_in_copies-requires-clause-quotients : goal.cofactors_in_copies-requires-clause-quotients
@@ -70,8 +70,8 @@ cofactors_in_copies-requires-clause-lengths c =
     let same = c.in_ok-copied.ensures.value in
     let given : c.len-count.result ≡ length s.ideal = omega (arith, c.len-count.ensures, ap (λ (t : Told). length t.system.ideal) c.system.view_is) in
     let long : All (λ us. length us ≡ length s.ideal) lists =
-        chosen-all (λ us. length us ≡ length s.ideal) [] (map (λ us. us.items) c.args.lists.now) (length c.args.lists.now) c.args.places.now (length-map c.args.lists.now (λ us. us.items))
-        (All-map (λ us. length us ≡ length s.ideal) (λ us. us.items) c.args.lists.now c.requires.lengths) c.requires.places in
+    chosen-all (λ us. length us ≡ length s.ideal) [] (map (λ us. us.items) c.args.lists.now) (length c.args.lists.now) c.args.places.now (length-map c.args.lists.now (λ us. us.items))
+    (All-map (λ us. length us ≡ length s.ideal) (λ us. us.items) c.args.lists.now c.requires.lengths) c.requires.places in
     subst₂ (λ xs (n : ℕ). All (λ ls. All (λ us. length us.items ≡ n) ls.items) xs) (sym c.deref-in-parts.ensures.value) (sym given)
     (made-lengths (λ us. us.items) (λ ls. ls.items) c.new-ring.result.coeffs c.new-from.result.vars lists (length s.ideal) 0 c.copies_of.result made same long)
 
@@ -109,7 +109,7 @@ parts-preserved c =
     let qs_at : c.deref.result.now ≡ get_or quotients k [] = c.deref.ensures.value ∙ list-at (λ qs. qs.items) [] c.args.quotients.now k c.index-quotients-k.result c.parts-test.true c.index-quotients-k.is in
     let over_made = subst (λ xs. AreInCopies p v (length xs) n kept (λ j. get_or (map (λ ls. map (λ us. us.items) ls.items) xs) j []) c.deref.result.now u.items) c.deref-in-parts.ensures.value c.in_ok-array.ensures.cofactors in
     let by_copies : AreInCopies p v c.copies_of.result n kept (λ j. get_or views j []) (get_or quotients k []) u.items =
-        subst₂ (λ (m : ℕ) (qs : List Poly). AreInCopies p v m n kept (λ j. get_or views j []) qs u.items) (made-number (λ us. us.items) (λ ls. ls.items) c.new-ring.result.coeffs c.new-from.result.vars lists c.copies_of.result made same) qs_at over_made in
+    subst₂ (λ (m : ℕ) (qs : List Poly). AreInCopies p v m n kept (λ j. get_or views j []) qs u.items) (made-number (λ us. us.items) (λ ls. ls.items) c.new-ring.result.coeffs c.new-from.result.vars lists c.copies_of.result made same) qs_at over_made in
     let here = law-made s law lists p v c.new-from.result.vars c.copies_of.result n kept of_law views same (get_or quotients k []) u.items by_copies in
     rw c.in_ok-push.ensures.items (record {
       number = length_push arrays u ∙ ap (λ (m : ℕ). m + 1) c.parts.invariant.number;
@@ -157,6 +157,6 @@ returns-in_err-array-clause-degree c =
     let fault = c.in_err-array.field-0.0 in
     let over_made = subst (λ xs. DegreesMeet (CopiesMeet p (length xs) kept (λ j. get_or (map (λ ls. map (λ us. us.items) ls.items) xs) j []) qs) fault) c.deref-in-parts.ensures.value c.in_err-array.ensures.degree in
     let by_copies : DegreesMeet (CopiesMeet p c.copies_of.result kept (λ j. get_or views j []) qs) fault =
-        subst (λ (m : ℕ). DegreesMeet (CopiesMeet p m kept (λ j. get_or views j []) qs) fault) (made-number (λ us. us.items) (λ ls. ls.items) c.new-ring.result.coeffs c.new-from.result.vars lists c.copies_of.result made same) over_made in
+    subst (λ (m : ℕ). DegreesMeet (CopiesMeet p m kept (λ j. get_or views j []) qs) fault) (made-number (λ us. us.items) (λ ls. ls.items) c.new-ring.result.coeffs c.new-from.result.vars lists c.copies_of.result made same) over_made in
     let q = err_from_is_err_and c.from_residual-in_err-array.result c.from_residual-in_err-array.ensures.1 in
     rw (q.1, q.2) (law-meets s law lists p c.new-ring.result.vars c.new-from.result.vars c.copies_of.result c.len-count.result kept of_law views same quotients k low qs qs_at fault by_copies)
