@@ -1,6 +1,8 @@
 //! The laws of a group and of its action, tested by ideal membership.
 #![tactic(auto)]
 
+mod cofactors;
+mod copied;
 mod group;
 mod law;
 mod parts;

@@ -207,7 +207,7 @@ fn products_move_in_turn(
 }
 
 // The number of variables of the ring of a law.
-fn variables_of(system: &System, law: LawName) -> u32
+pub(crate) fn variables_of(system: &System, law: LawName) -> u32
     requires { IsSystem system.now.system }
     ensures { result ≡ variables_of system.now.system (law_of law) }
 {

@@ -1,17 +1,31 @@
 //! The proofs of the laws: cofactors of each part over the copies of the group's ideal.
 
-ghost use Rattle.std.specs.Prelude.{◌≡◌, ◌⊎◌, ℕ, map, All, IfOk, IfErr, OnOk};
+ghost use Rattle.std.specs.Prelude.{◌≡◌, ◌⊎◌, ◌<◌, ◌*◌, ℕ, [], length, get_or, map, false, All, IfOk, IfErr, OnOk};
+ghost use Rattle.rinv_algebra.specs.Residue.{residue_ops};
+ghost use Rattle.rinv_algebra.specs.Order.{grevlex};
+ghost use Rattle.rinv_defs.specs.System.{group_count};
 ghost use Rattle.rinv_defs.specs.SystemForm.{IsSystem};
-ghost use Rattle.rinv_defs.specs.Laws.{AllLawsHold};
-ghost use Rattle.rinv_laws.specs.LawNames.{law_of};
-ghost use Rattle.rinv_laws.specs.Group.{IsGroupBasis};
+ghost use Rattle.rinv_defs.specs.Laws.{AllLawsHold, copies};
+ghost use Rattle.rinv_ring.specs.Fault.{DegreesMeet};
+ghost use Rattle.rinv_buch.specs.Combining.{CombiningMeets};
+ghost use Rattle.rinv_laws.specs.LawNames.{law_of, rank, variables_of};
+ghost use Rattle.rinv_laws.specs.Points.{ArePolynomials};
+ghost use Rattle.rinv_laws.specs.Group.{IsGroupBasis, never};
+ghost use Rattle.rinv_laws.specs.Copied.{AreAllQuotients};
 ghost use Rattle.rinv_laws.specs.Faults.{TestMeets, LawStopsSo};
-ghost use Rattle.rinv_laws.specs.Proofs.{proved_laws, ProvesLaw, ProofsMeet};
+ghost use Rattle.rinv_laws.specs.Proofs.{proved_laws, chosen, AreMadeOf, KeepCofactors, MakingMeets, ProvesLaw, ProofsMeet};
 
+use crate::cofactors::{cofactors_in_copies, lists_in_copies};
+use crate::copied::copies_of;
 use crate::group::GroupBasis;
 use crate::law::LawName;
+use crate::parts::variables_of;
 use crate::stop::LawStop;
-use rinv_poly::KPoly;
+use crate::testing::{LawQuotients, test_laws};
+use rinv_buch::{combinations, kept_places};
+use rinv_mono::Grevlex;
+use rinv_poly::{KPoly, PolyRing};
+use rinv_ring::RingFault;
 use rinv_text::System;
 use std::alloc::Global;
 
@@ -24,11 +38,7 @@ pub struct LawProofs {
 
 /// Tests the laws, and proves each of them by cofactors. Fault comes exactly where a part is false, at the first; Degree only where the test
 /// or the making of the cofactors meets these degrees.
-pub fn check_laws(
-    alloc: Global,
-    system: &System,
-    group: &GroupBasis,
-) -> Result<LawProofs, LawStop>
+pub fn check_laws(alloc: Global, system: &System, group: &GroupBasis) -> Result<LawProofs, LawStop>
     requires system { IsSystem system.now.system }
     requires group { IsGroupBasis system.now.system group.now.basis group.now.reduced.items }
     ensures hold { OnOk result (AllLawsHold system.now.system) }
@@ -36,6 +46,110 @@ pub fn check_laws(
     ensures proofs { IfOk result (λ p. All (λ e. ProvesLaw system.now.system group.now.basis (law_of e.0) (map (λ us. us.items) e.1.items)) p.cofactors.items) }
     ensures stop { IfErr result (LawStopsSo system.now.system (λ x y. TestMeets system.now.system group.now.basis x y ⊎ ProofsMeet system.now.system group.now.basis x y)) }
 {
-    // Never to land: stands for the cofactors while the crates above are proved.
-    Err(LawStop::NoMemory)
+    let quotients = test_laws(alloc, system, group)?;
+    match proofs_of(alloc, system, group, &quotients) {
+        Ok(cofactors) => Ok(LawProofs { cofactors }),
+        Err(RingFault::NoMemory) => Err(LawStop::NoMemory),
+        Err(RingFault::Degree { left, right }) => Err(LawStop::Degree { left, right }),
+    }
+}
+
+// The proofs of the laws by these quotients.
+fn proofs_of(
+    alloc: Global,
+    system: &System,
+    group: &GroupBasis,
+    quotients: &LawQuotients,
+) -> Result<Vec<(LawName, Vec<Vec<KPoly>>)>, RingFault>
+    requires system { IsSystem system.now.system }
+    requires group { IsGroupBasis system.now.system group.now.basis group.now.reduced.items }
+    requires quotients { AreAllQuotients system.now.system group.now.basis quotients.now }
+    ensures laws { IfOk result (λ p. map (λ e. law_of e.0) p.items ≡ proved_laws) }
+    ensures proofs { IfOk result (λ p. All (λ e. ProvesLaw system.now.system group.now.basis (law_of e.0) (map (λ us. us.items) e.1.items)) p.items) }
+    ensures degree { IfErr result (DegreesMeet (ProofsMeet system.now.system group.now.basis)) }
+{
+    let (lists, places) = kept_cofactors(alloc, system, group)?;
+    let mut proofs = Vec::with_capacity(alloc, 6)?;
+    'laws: for k in 0..6usize {
+        let (law, place) = proved_law(k);
+        let own = quotients_at(quotients, place);
+        let arrays = cofactors_of_law(alloc, system, &lists, &places, law, own)?;
+        proofs.push((law, arrays))?;
+    }
+    Ok(proofs)
+}
+
+// The law at a place among those that are proved, and its place among those that are tested.
+fn proved_law(k: usize) -> (LawName, usize)
+    requires { k < 6 }
+    ensures law { law_of result.0 ≡ get_or proved_laws k (law_of result.0) }
+    ensures place { result.1 ≡ rank (law_of result.0) }
+{
+    match k {
+        0 => (LawName::L2, 1),
+        1 => (LawName::L3, 2),
+        2 => (LawName::L4, 3),
+        3 => (LawName::L5, 4),
+        4 => (LawName::L6, 5),
+        _ => (LawName::A2, 7),
+    }
+}
+
+// The quotients of the parts of a law, by its place among those that are tested.
+fn quotients_at(quotients: &LawQuotients, place: usize) -> &[Vec<KPoly>]
+    requires { place < length quotients.now }
+    ensures { map (λ qs. qs.items) result.now ≡ get_or quotients.now place [] }
+{
+    &quotients.lists[place]
+}
+
+// The cofactors of the elements of the group's basis over the group's ideal, and the places of the kept elements.
+fn kept_cofactors(
+    alloc: Global,
+    system: &System,
+    group: &GroupBasis,
+) -> Result<(Vec<Vec<KPoly>>, Vec<usize>), RingFault>
+    requires system { IsSystem system.now.system }
+    requires group { IsGroupBasis system.now.system group.now.basis group.now.reduced.items }
+    ensures lengths { IfOk result (λ r. All (λ us. length us.items ≡ length system.now.system.ideal) r.0.items) }
+    ensures normal { IfOk result (λ r. All (λ us. ArePolynomials system.now.system.p (group_count system.now.system) us.items) r.0.items) }
+    ensures inside { IfOk result (λ r. All (λ k. k < length r.0.items) r.1.items) }
+    ensures cofactors { IfOk result (λ r. KeepCofactors system.now.system group.now.basis (chosen (map (λ us. us.items) r.0.items) r.1.items)) }
+    ensures degree { IfErr result (DegreesMeet (CombiningMeets (residue_ops system.now.system.p) grevlex never system.now.system.ideal group.now.basis.journal group.now.basis.polys)) }
+{
+    let ring = PolyRing::new(system.field, system.group.len());
+    let found = &group.basis;
+    let lists = combinations(&ring, alloc, &system.ideal, found, &Grevlex)?;
+    let places = kept_places(&ring, alloc, &found.polys, &Grevlex)?;
+    Ok((lists, places))
+}
+
+// For each part of the law, given by the quotients of its division, its cofactors over the copies of the group's ideal.
+fn cofactors_of_law(
+    alloc: Global,
+    system: &System,
+    lists: &[Vec<KPoly>],
+    places: &[usize],
+    law: LawName,
+    quotients: &[Vec<KPoly>],
+) -> Result<Vec<Vec<KPoly>>, RingFault>
+    requires system { IsSystem system.now.system }
+    requires lists { All (λ us. ArePolynomials system.now.system.p (group_count system.now.system) us.items) lists.now }
+    requires lengths { All (λ us. length us.items ≡ length system.now.system.ideal) lists.now }
+    requires places { All (λ k. k < length lists.now) places.now }
+    requires many { All (λ qs. length qs.items ≡ copies (law_of law) * length places.now) quotients.now }
+    requires quotients { All (λ qs. ArePolynomials system.now.system.p (variables_of system.now.system (law_of law)) qs.items) quotients.now }
+    ensures cofactors { IfOk result (λ r. AreMadeOf system.now.system (law_of law) (chosen (map (λ us. us.items) lists.now) places.now) (map (λ qs. qs.items) quotients.now) (map (λ us. us.items) r.items)) }
+    ensures degree { IfErr result (DegreesMeet (MakingMeets system.now.system (law_of law) (chosen (map (λ us. us.items) lists.now) places.now) (map (λ qs. qs.items) quotients.now))) }
+{
+    let from = PolyRing::new(system.field, system.group.len());
+    let ring = PolyRing::new(system.field, variables_of(system, law));
+    let copied = lists_in_copies(alloc, &from, lists, places, &ring, copies_of(law))?;
+    let (kept, count) = (places.len(), system.ideal.len());
+    let mut arrays = Vec::with_capacity(alloc, quotients.len())?;
+    'parts: for k in 0..quotients.len() {
+        let array = cofactors_in_copies(alloc, &ring, &quotients[k], &copied, kept, count)?;
+        arrays.push(array)?;
+    }
+    Ok(arrays)
 }

@@ -1,0 +1,13 @@
+use Rattle.std.proofs.Common.{◌*◌, map, take, All}
+use Rattle.std.specs.List.{AllZip}
+use Rattle.rinv_algebra.specs.Residue.{residue_ops}
+use Rattle.rinv_groebner.specs.Division.{AreSame}
+use Rattle.rinv_laws.specs.Points.{ArePolynomials}
+use Rattle.rinv_laws.specs.Proofs.{chosen, past_lists}
+use Rattle.rinv_laws.proofs.cofactors.lists_in_copy.Given as goal
+
+abbrev pub invariant-places : goal.invariant-places
+invariant-places l = record {
+  normal : All (λ us. ArePolynomials l.to.coeffs l.to.vars us.items) l.copies.items;
+  value : AllZip (AreSame (residue_ops l.to.coeffs)) (map (λ us. us.items) l.copies.items) (past_lists (l.copy * l.from.vars) (chosen (map (λ us. us.items) l.lists) (take l.k l.places)));
+}

@@ -1,0 +1,141 @@
+//! Polynomials in copies of the group's variables, and the kept elements of the group's basis there, ready for division.
+
+ghost use Rattle.std.specs.Prelude.{◌≡◌, ◌+◌, ◌*◌, ◌≤◌, ◌<◌, [], ◌++◌, false, map, length, get_or, nat_lt, All, IfOk};
+ghost use Rattle.rinv_algebra.specs.Ring.{IsSame};
+ghost use Rattle.rinv_algebra.specs.Residue.{residue_ops};
+ghost use Rattle.rinv_algebra.specs.Order.{grevlex};
+ghost use Rattle.rinv_algebra.specs.Polynomial.{poly_ops, is_zero, past};
+ghost use Rattle.rinv_algebra.specs.Normal.{IsNormal};
+ghost use Rattle.rinv_groebner.specs.Division.{AreSame};
+ghost use Rattle.rinv_groebner.specs.Copies.{copies as copied};
+ghost use Rattle.rinv_div.specs.Divisors.{AreDivisors};
+ghost use Rattle.rinv_defs.specs.Laws.{copies};
+ghost use Rattle.rinv_laws.specs.LawNames.{law_of};
+ghost use Rattle.rinv_laws.specs.Points.{ArePolynomials};
+
+use crate::law::LawName;
+use crate::points::appended;
+use rinv_div::{Divisors, divisors_of};
+use rinv_mono::Grevlex;
+use rinv_poly::{KPoly, PolyRing};
+use rinv_ring::{Gf, NoMemory};
+use rinv_sub::widened;
+use std::alloc::Global;
+
+/// Polynomials, and the divisors made of them.
+#[derive(Drop)]
+pub(crate) struct CopiedBasis {
+    pub(crate) polys: Vec<KPoly>,
+    pub(crate) divisors: Divisors<Gf>,
+}
+
+// Of how many points of the group the law speaks.
+pub(crate) fn copies_of(law: LawName) -> u32
+    ensures { result ≡ copies (law_of law) }
+{
+    match law {
+        LawName::L1 | LawName::A1 => 0,
+        LawName::L3 | LawName::L5 | LawName::L6 => 1,
+        LawName::L2 | LawName::A2 => 2,
+        LawName::L4 => 3,
+    }
+}
+
+// The polynomial in a copy of its variables, counted from 0, in the ring of a law.
+pub(crate) fn in_copy(
+    alloc: Global,
+    from: &PolyRing<Gf>,
+    f: &KPoly,
+    ring: &PolyRing<Gf>,
+    copy: u32,
+) -> Result<KPoly, NoMemory>
+    requires field { from.now.coeffs ≡ ring.now.coeffs }
+    requires inside { copy * from.now.vars + from.now.vars ≤ ring.now.vars }
+    requires polynomial { IsNormal (residue_ops from.now.coeffs) (λ c. nat_lt c from.now.coeffs) from.now.vars f.now }
+    ensures normal { IfOk result (λ r. IsNormal (residue_ops ring.now.coeffs) (λ c. nat_lt c ring.now.coeffs) ring.now.vars r) }
+    ensures value { IfOk result (λ r. IsSame (poly_ops (residue_ops ring.now.coeffs)) r (past (copy * from.now.vars) f.now)) }
+{
+    let _vars = ring.vars();
+    let before = copy * from.vars();
+    let through = PolyRing::new(*ring.coeffs(), before + from.vars());
+    let moved = from.behind(alloc, before, f, &through)?;
+    // Sums of numbers modulo a prime are refused for memory alone.
+    let Ok(element) = widened(&through, alloc, &moved, ring) else {
+        return Err(NoMemory);
+    };
+    Ok(element)
+}
+
+// The polynomials at the places in a copy of their variables.
+fn chosen_in_copy(
+    alloc: Global,
+    from: &PolyRing<Gf>,
+    polys: &[KPoly],
+    places: &[usize],
+    ring: &PolyRing<Gf>,
+    copy: u32,
+) -> Result<Vec<KPoly>, NoMemory>
+    requires field { from.now.coeffs ≡ ring.now.coeffs }
+    requires inside { copy * from.now.vars + from.now.vars ≤ ring.now.vars }
+    requires polynomials { ArePolynomials from.now.coeffs from.now.vars polys.now }
+    requires places { All (λ k. k < length polys.now) places.now }
+    ensures normal { IfOk result (λ r. ArePolynomials ring.now.coeffs ring.now.vars r.items) }
+    ensures value { IfOk result (λ r. AreSame (residue_ops ring.now.coeffs) r.items (map (past (copy * from.now.vars)) (map (λ k. get_or polys.now k []) places.now))) }
+{
+    let mut list = Vec::new(alloc);
+    'places: for k in 0..places.len() {
+        let element = in_copy(alloc, from, &polys[places[k]], ring, copy)?;
+        list.push(element)?;
+    }
+    Ok(list)
+}
+
+// The polynomials at the places in each of the first copies of their variables, copy after copy.
+fn chosen_in_copies(
+    alloc: Global,
+    from: &PolyRing<Gf>,
+    polys: &[KPoly],
+    places: &[usize],
+    ring: &PolyRing<Gf>,
+    copies: u32,
+) -> Result<Vec<KPoly>, NoMemory>
+    requires field { from.now.coeffs ≡ ring.now.coeffs }
+    requires inside { copies * from.now.vars ≤ ring.now.vars }
+    requires polynomials { ArePolynomials from.now.coeffs from.now.vars polys.now }
+    requires places { All (λ k. k < length polys.now) places.now }
+    ensures normal { IfOk result (λ r. ArePolynomials ring.now.coeffs ring.now.vars r.items) }
+    ensures value { IfOk result (λ r. AreSame (residue_ops ring.now.coeffs) r.items (copied copies from.now.vars (map (λ k. get_or polys.now k []) places.now))) }
+{
+    let mut list = Vec::new(alloc);
+    'copies: for copy in 0..copies {
+        let next = chosen_in_copy(alloc, from, polys, places, ring, copy)?;
+        list = appended(list, next)?;
+    }
+    Ok(list)
+}
+
+// The polynomials at the places in each of the first copies of their variables, copy after copy, with the divisors made of them.
+pub(crate) fn copied_basis(
+    alloc: Global,
+    from: &PolyRing<Gf>,
+    polys: &[KPoly],
+    places: &[usize],
+    ring: &PolyRing<Gf>,
+    copies: u32,
+) -> Result<CopiedBasis, NoMemory>
+    requires field { from.now.coeffs ≡ ring.now.coeffs }
+    requires inside { copies * from.now.vars ≤ ring.now.vars }
+    requires polynomials { ArePolynomials from.now.coeffs from.now.vars polys.now }
+    requires nonzero { All (λ h. is_zero (residue_ops from.now.coeffs) h ≡ false) polys.now }
+    requires places { All (λ k. k < length polys.now) places.now }
+    ensures normal { IfOk result (λ b. ArePolynomials ring.now.coeffs ring.now.vars b.polys.items) }
+    ensures value { IfOk result (λ b. AreSame (residue_ops ring.now.coeffs) b.polys.items (copied copies from.now.vars (map (λ k. get_or polys.now k []) places.now))) }
+    ensures divisors { IfOk result (λ b. AreDivisors (residue_ops ring.now.coeffs) (λ c. nat_lt c ring.now.coeffs) ring.now.vars grevlex b.polys.items b.divisors.list.items) }
+{
+    let elements = chosen_in_copies(alloc, from, polys, places, ring, copies)?;
+    let divisors = divisors_of(ring, alloc, &elements, &Grevlex)?;
+    Ok(CopiedBasis {
+        polys: elements,
+        divisors,
+    })
+}
