@@ -1,3 +1,7 @@
 pub mod PointFacts
 pub mod Computed
 pub mod GroupFacts
+pub mod KeptBasis
+pub mod GroupCopies
+pub mod TestedLaws
+pub mod LawsInTurn
