@@ -4,5 +4,6 @@ pub mod GroupFacts
 pub mod KeptBasis
 pub mod GroupCopies
 pub mod CopiedFacts
+pub mod PartCounts
 pub mod TestedLaws
 pub mod LawsInTurn
