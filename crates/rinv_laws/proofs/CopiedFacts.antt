@@ -1,10 +1,12 @@
 -- Chosen elements of a list, in copies of their variables.
+--   chosen-one, chosen-is    a chosen element
 --   copies-more          one copy more
 --   chosen-map           the chosen elements, each in its copy
 --   copied-nonzero       no zero among what is the same as the copies
-use Rattle.std.proofs.Common.{◌≡◌, ℕ, zero, suc, ◌+◌, ◌*◌, ◌<◌, false, not, List, [], ◌∷◌, ◌++◌, map, length, get_or, refl, sym, ◌∙◌, ap, All, append-nil, append_assoc, add-zero, add-one, arith}
+use Rattle.std.proofs.Common.{◌≡◌, ℕ, zero, suc, ◌+◌, ◌*◌, ◌<◌, false, not, List, [], ◌∷◌, ◌++◌, map, length, get_or, refl, sym, ◌∙◌, ap, subst, All, append-nil, append_assoc, add-zero, add-one, arith}
 use Rattle.std.specs.Prelude.{flat_map}
 use Rattle.std.specs.List.{list_all, range_with_len}
+use Rattle.std.proofs.lemmas.List.{get_or_default}
 use Rattle.std.proofs.lemmas.List.Elements.{All-head, All-tail}
 use Rattle.rinv_algebra.specs.Ring.{RingOps, RingLaws}
 use Rattle.rinv_algebra.specs.Polynomial.{Polynomial, poly_ops, is_zero, past}
@@ -17,6 +19,17 @@ use Rattle.rinv_groebner.specs.Copies.{copies}
 use Rattle.rinv_groebner.proofs.CopiesLists.{copies-nonzero}
 use Rattle.rinv_buch.proofs.OwnIdeal.{nonzero-each}
 
+-- a chosen element is one of the list
+module _ {X : Type 0} (xs : List X) (places : List ℕ) (inside : All (λ i. i < length xs) places) (k place : ℕ) (x : X) (few : k < length places) (at : place ≡ get_or places k place) (is : x ≡ get_or xs place x) where
+  place-inside : place < length xs
+  place-inside = subst (λ (i : ℕ). i < length xs) (sym at) (inside k place few)
+
+  pub chosen-one : (P : X → Type 0) → All P xs → P x
+  chosen-one P all = subst P (sym is) (all place x place-inside)
+
+  pub chosen-is : (d : X) → x ≡ get_or xs place d
+  chosen-is d = is ∙ get_or_default xs place x d place-inside
+
 -- one list more
 lists-more : {X : Type 0} (f : ℕ → List X) (s c : ℕ) → flat_map f (range_with_len s (suc c)) ≡ flat_map f (range_with_len s c) ++ f (s + c)
 lists-more f s zero = append-nil (f s) ∙ ap f (sym (add-zero s))
@@ -26,7 +39,9 @@ lists-more f s (suc c) =
     ∙ sym (append_assoc (f s) (flat_map f (range_with_len (s + 1) c)) (f (s + suc c)))
 
 pub copies-more : {E : Type 0} (c v : ℕ) (fs : List (Polynomial E)) → copies (c + 1) v fs ≡ copies c v fs ++ map (past (c * v)) fs
-copies-more c v fs = ap (λ (k : ℕ). copies k v fs) (add-one c) ∙ lists-more (λ j. map (past (j * v)) fs) 0 c
+copies-more c v fs =
+    let e : 0 + c ≡ c = omega arith in
+    ap (λ (k : ℕ). copies k v fs) (add-one c) ∙ lists-more (λ j. map (past (j * v)) fs) 0 c ∙ ap (λ (k : ℕ). copies c v fs ++ map (past (k * v)) fs) e
 
 -- the chosen elements, moved
 pub chosen-map : {E : Type 0} (k : ℕ) (hs : List (Polynomial E)) (places : List ℕ) → map (λ i. past k (get_or hs i [])) places ≡ map (past k) (map (λ i. get_or hs i []) places)

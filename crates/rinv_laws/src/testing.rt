@@ -21,7 +21,7 @@ use crate::law::LawName;
 use crate::parts::parts_of;
 use crate::stop::{LawFault, LawStop};
 use rinv_buch::kept_places;
-use rinv_div::divide_wholly;
+use rinv_div::{Division, divide_wholly};
 use rinv_mono::Grevlex;
 use rinv_poly::{KPoly, PolyRing};
 use rinv_ring::{Gf, Ring};
@@ -73,14 +73,13 @@ fn test_part(
     ensures stop { IfErr result (PartStops ring.now.coeffs basis.now.polys.items (law_of law) place part.now) }
 {
     let division = divide_wholly(ring, alloc, part, &basis.polys, &basis.divisors, &Grevlex)?;
-    if !ring.is_zero(&division.rest) {
-        return Err(LawStop::Fault(LawFault {
-            law,
-            part: place,
-            rest: division.rest,
-        }));
+    let Division { quotients, rest } = division;
+    if ring.is_zero(&rest) {
+        Ok(quotients)
+    } else {
+        let part = place;
+        Err(LawStop::Fault(LawFault { law, part, rest }))
     }
-    Ok(division.quotients)
 }
 
 // The quotients of the parts of the law by the basis, where the division of each leaves nothing.
