@@ -5,5 +5,6 @@ pub mod KeptBasis
 pub mod GroupCopies
 pub mod CopiedFacts
 pub mod PartCounts
+pub mod PartsInTurn
 pub mod TestedLaws
 pub mod LawsInTurn
