@@ -55,23 +55,20 @@ module _ {E : Type 0} (o : RingOps E) (l : RingLaws o) (field : FieldLaws o) (cm
   pub kept-basis : AreInVariables v fs → AreNonzero o hs → IsGroebnerBasis o cmp v fs (kept o cmp hs)
   kept-basis fs_in nonzero = record { ideal = (members, generated); divided = divided }
     where
-      abbrev ks : List (Polynomial E)
-      ks = kept o cmp hs
+      first : AllFirst o l v (kept o cmp hs)
+      first = all_first o l v (kept o cmp hs) (passes-kept o cmp (is_in_variables v) hs [] hs hs_in)
 
-      first : AllFirst o l v ks
-      first = all_first o l v ks (passes-kept o cmp (is_in_variables v) hs [] hs hs_in)
+      members : AreMembers o fs (kept o cmp hs)
+      members = all_from (IsMember o fs) [] (kept o cmp hs) (λ k inside. all_has (IsMember o fs) hs b.ideal.0 (kept-in o cmp hs [] hs (has_at [] (kept o cmp hs) k inside)))
 
-      members : AreMembers o fs ks
-      members = all_from (IsMember o fs) [] ks (λ k inside. all_has (IsMember o fs) hs b.ideal.0 (kept-in o cmp hs [] hs (has_at [] ks k inside)))
-
-      divided : AreDivided o l v cmp order fs ks
+      divided : AreDivided o l v cmp order fs (kept o cmp hs)
       divided f f_in m n =
           let ((p, z), d) = reducible_place o cmp hs (leading_monomial o cmp f) (b.divided f f_in m n) in
           let (k, there, c) = kept_divides o cmp hs p (place-inside o cmp hs (p, z)) in
-          place_reducible o cmp ks (leading_monomial o cmp f) (k, nonzero_has o ks (passes-kept o cmp (λ h. not (is_zero o h)) hs [] hs nonzero) _ (has_at [] ks k there)) (divisor_trans _ _ _ c d)
+          place_reducible o cmp (kept o cmp hs) (leading_monomial o cmp f) (k, nonzero_has o (kept o cmp hs) (passes-kept o cmp (λ h. not (is_zero o h)) hs [] hs nonzero) _ (has_at [] (kept o cmp hs) k there)) (divisor_trans _ _ _ c d)
 
-      generated : AreMembers o ks fs
-      generated = all_from (IsMember o ks) [] fs (λ k inside. generates o l cmp v order ks first field fs members divided (get_or fs k []) (all_first o l v fs fs_in k) (all_at (IsMember o fs) [] fs (own_members o l fs) k inside))
+      generated : AreMembers o (kept o cmp hs) fs
+      generated = all_from (IsMember o (kept o cmp hs)) [] fs (λ k inside. generates o l cmp v order (kept o cmp hs) first field fs members divided (get_or fs k []) (all_first o l v fs fs_in k) (all_at (IsMember o fs) [] fs (own_members o l fs) k inside))
 
   -- polynomials that are the same
   pub same-basis : (gs : List (Polynomial E)) → AreSame o hs gs → IsGroebnerBasis o cmp v fs gs
