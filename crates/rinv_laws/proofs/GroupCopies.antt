@@ -1,9 +1,10 @@
 -- The basis of a group's ideal: its kept elements in copies of the group's variables are a Gröbner basis of the copies of the ideal.
---   polys-nonzero        no element of the basis is zero
+--   polys-nonzero, nonzero-over    no element of the basis is zero
 --   copied-basis         a list that is the same as the copies is such a basis
-use Rattle.std.proofs.Common.{ℕ, List, [], nat_lt}
+use Rattle.std.proofs.Common.{◌≡◌, ℕ, false, List, [], nat_lt, All}
 use Rattle.rinv_algebra.specs.Residue.{residue_ops}
 use Rattle.rinv_algebra.specs.Order.{grevlex}
+use Rattle.rinv_algebra.specs.Polynomial.{is_zero}
 use Rattle.rinv_algebra.specs.Normal.{is_in_variables}
 use Rattle.rinv_algebra.proofs.ResidueField.{residue_field_laws}
 use Rattle.rinv_algebra.proofs.ResidueLaws.{residue_laws}
@@ -19,6 +20,7 @@ use Rattle.rinv_groebner.proofs.KnownOrders.{grevlex_orders}
 use Rattle.rinv_groebner.proofs.ListElements.{all_first}
 use Rattle.rinv_buch.specs.Kinds.{Found}
 use Rattle.rinv_buch.proofs.InVariables.{all-in_variables}
+use Rattle.rinv_buch.proofs.OwnIdeal.{nonzero-each}
 use Rattle.rinv_text.proofs.SystemParts.{parts-of}
 use Rattle.rinv_defs.specs.System.{System, Poly, group_count, ideal_copies}
 use Rattle.rinv_defs.specs.SystemForm.{IsSystem}
@@ -27,6 +29,10 @@ use Rattle.rinv_laws.specs.LawNames.{space_in, variables_of}
 use Rattle.rinv_laws.specs.Copied.{kept_copies}
 use Rattle.rinv_laws.specs.Group.{IsGroupBasis}
 use Rattle.rinv_laws.proofs.KeptBasis.{passes-kept, kept-basis, same-basis}
+
+-- a list without zero, as a function has it
+pub nonzero-over : (p q : ℕ) (fs gs : List Poly) → p ≡ q → fs ≡ gs → AreNonzero (residue_ops q) gs → All (λ h. is_zero (residue_ops p) h ≡ false) fs
+nonzero-over p q fs gs a b h = rw (a, b) (nonzero-each (residue_ops q) gs h)
 
 module _ (s : System) (found : Found ℕ) (reduced : List Poly) (system : IsSystem s) (group : IsGroupBasis s found reduced) where
   ideal-in : AreInVariables (group_count s) s.ideal
