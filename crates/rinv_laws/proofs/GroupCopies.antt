@@ -1,7 +1,8 @@
 -- The basis of a group's ideal: its kept elements in copies of the group's variables are a Gröbner basis of the copies of the ideal.
 --   polys-nonzero, nonzero-over    no element of the basis is zero
+--   kept-over            the kept elements
 --   copied-basis         a list that is the same as the copies is such a basis
-use Rattle.std.proofs.Common.{◌≡◌, ℕ, false, List, [], nat_lt, All}
+use Rattle.std.proofs.Common.{◌≡◌, ℕ, false, List, [], map, get_or, nat_lt, All}
 use Rattle.rinv_algebra.specs.Residue.{residue_ops}
 use Rattle.rinv_algebra.specs.Order.{grevlex}
 use Rattle.rinv_algebra.specs.Polynomial.{is_zero}
@@ -33,6 +34,10 @@ use Rattle.rinv_laws.proofs.KeptBasis.{passes-kept, kept-basis, same-basis}
 -- a list without zero, as a function has it
 pub nonzero-over : (p q : ℕ) (fs gs : List Poly) → p ≡ q → fs ≡ gs → AreNonzero (residue_ops q) gs → All (λ h. is_zero (residue_ops p) h ≡ false) fs
 nonzero-over p q fs gs a b h = rw (a, b) (nonzero-each (residue_ops q) gs h)
+
+-- what was kept, in the ring of the group
+pub kept-over : (p q : ℕ) (fs gs : List Poly) (ks js : List ℕ) → p ≡ q → fs ≡ gs → js ≡ ks → map (λ k. get_or fs k []) ks ≡ kept (residue_ops p) grevlex fs → map (λ k. get_or gs k []) js ≡ kept (residue_ops q) grevlex gs
+kept-over p q fs gs ks js a b e h = rw (← a, ← b, e) h
 
 module _ (s : System) (found : Found ℕ) (reduced : List Poly) (system : IsSystem s) (group : IsGroupBasis s found reduced) where
   ideal-in : AreInVariables (group_count s) s.ideal

@@ -1,15 +1,17 @@
 -- The laws tested one after another.
 --   TestedUpTo                             the laws before a place hold, and these are the quotients of their parts
---   tested-none, tested-more, tested-all   one law more; all laws
+--   tested-none, tested-more, tested-hold, tested-all    one law more; all laws
 --   rank-listed                            the place of a law in the list of the names
-use Rattle.std.proofs.Common.{◌≡◌, ℕ, ◌+◌, ◌<◌, List, [], ◌∷◌, ◌++◌, length, get_or, refl, sym, ap, ◌∙◌, subst, inl, inr, arith}
+use Rattle.std.proofs.Common.{◌≡◌, ℕ, zero, suc, ◌+◌, ◌<◌, List, [], ◌∷◌, ◌++◌, length, get_or, refl, sym, ap, ◌∙◌, subst, inl, inr, arith}
 use Rattle.std.proofs.lemmas.Bool.{cases_lt}
 use Rattle.std.proofs.lemmas.List.{length-append, get_or_append_left, get_or-append-add}
 use Rattle.rinv_buch.specs.Kinds.{Found}
 use Rattle.rinv_defs.specs.System.{System, Poly}
 use Rattle.rinv_defs.specs.Laws.{Law, all_laws, LawHolds, AllLawsHold}
 use Rattle.rinv_defs.specs.Laws.Law.{L1, L2, L3, L4, L5, L6, A1, A2}
-use Rattle.rinv_laws.specs.LawNames.{rank}
+use Rattle.rinv_laws.specs.declared.law.LawName.{LawName}
+use Rattle.rinv_laws.specs.declared.law.LawName.TheVariants.{L1 as N1, L2 as N2, L3 as N3, L4 as N4, L5 as N5, L6 as N6, A1 as M1, A2 as M2}
+use Rattle.rinv_laws.specs.LawNames.{law_of, rank}
 use Rattle.rinv_laws.specs.Copied.{AreQuotients, AreAllQuotients}
 
 -- the law at a place
@@ -35,6 +37,21 @@ rank-low A2 = omega arith
 
 same-rank : (a b : Law) → rank a ≡ rank b → a ≡ b
 same-rank a b e = sym (law-at a) ∙ ap (λ (k : ℕ). get_or all_laws k L1) e ∙ law-at b
+
+-- the names in their order
+abbrev pub names : List LawName
+names = N1 ∷ N2 ∷ N3 ∷ N4 ∷ N5 ∷ N6 ∷ M1 ∷ M2 ∷ []
+
+pub rank-listed : (k : ℕ) → k < 8 → rank (law_of (get_or names k N1)) ≡ k
+rank-listed zero low = refl
+rank-listed (suc zero) low = refl
+rank-listed (suc (suc zero)) low = refl
+rank-listed (suc (suc (suc zero))) low = refl
+rank-listed (suc (suc (suc (suc zero)))) low = refl
+rank-listed (suc (suc (suc (suc (suc zero))))) low = refl
+rank-listed (suc (suc (suc (suc (suc (suc zero)))))) low = refl
+rank-listed (suc (suc (suc (suc (suc (suc (suc zero))))))) low = refl
+rank-listed (suc (suc (suc (suc (suc (suc (suc (suc k)))))))) low = absurd (omega (arith, low))
 
 -- the laws before this place hold, and these are the quotients of their parts
 pub record TestedUpTo (s : System) (found : Found ℕ) (k : ℕ) (lists : List (List (List Poly))) : Type 0 where
