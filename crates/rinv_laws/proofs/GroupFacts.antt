@@ -1,32 +1,25 @@
 -- The basis of a group's ideal, from what Buchberger's algorithm and the making of the reduced basis answer.
---   over-itself, over-ideal      bases of one ideal by other generators
+--   over-ideal                   the reduced basis, over the generators of the ideal
 --   group_basis-of               what is known of the group's ideal
-use Rattle.std.proofs.Common.{◌≡◌, ℕ, List, refl, sym, ◌∙◌, subst, nat_lt, All}
+use Rattle.std.proofs.Common.{◌≡◌, ℕ, List, refl, sym, subst, nat_lt, All}
 use Rattle.rinv_algebra.specs.Residue.{residue_ops}
 use Rattle.rinv_algebra.specs.Order.{grevlex}
 use Rattle.rinv_algebra.specs.Normal.{IsNormal}
-use Rattle.rinv_algebra.proofs.Grevlex.{grevlex_laws, grevlex_ties}
 use Rattle.rinv_algebra.proofs.ResidueField.{residue_field_laws}
 use Rattle.rinv_algebra.proofs.ResidueLaws.{residue_laws}
-use Rattle.rinv_groebner.specs.Orders.{OrdersMonomials}
 use Rattle.rinv_groebner.specs.Basis.{IsGroebnerBasis}
 use Rattle.rinv_groebner.specs.Journal.{Journal, IsComplete}
 use Rattle.rinv_groebner.specs.Reduced.{IsReducedGroebnerBasis, Ascend}
+use Rattle.rinv_groebner.proofs.KnownOrders.{grevlex_orders}
 use Rattle.rinv_groebner.proofs.ReducedLists.{basis-of}
 use Rattle.rinv_defs.specs.System.{System, Poly, group_count}
 use Rattle.rinv_buch.specs.Kinds.{Found}
 use Rattle.rinv_laws.specs.Group.{IsGroupBasis}
 use Rattle.rinv_laws.proofs.Computed.{over}
 
-in_grevlex : (v : ℕ) → OrdersMonomials grevlex v
-in_grevlex v = record { laws = grevlex_laws; ties = λ a b la lb e. grevlex_ties a b (la ∙ sym lb) e }
-
-pub over-itself : (p v : ℕ) (fs hs : List Poly) → IsGroebnerBasis (residue_ops p) grevlex v fs hs → IsGroebnerBasis (residue_ops p) grevlex v hs hs
-over-itself p v fs hs b = basis-of (residue_ops p) (residue_laws p) (residue_field_laws p) grevlex v (in_grevlex v) hs fs hs (b.ideal.1, b.ideal.0) b
-
 over-ideal : (p v : ℕ) (fs hs gs : List Poly) → IsGroebnerBasis (residue_ops p) grevlex v fs hs → IsReducedGroebnerBasis (residue_ops p) grevlex v hs gs → IsReducedGroebnerBasis (residue_ops p) grevlex v fs gs
 over-ideal p v fs hs gs b r = record {
-  basis = basis-of (residue_ops p) (residue_laws p) (residue_field_laws p) grevlex v (in_grevlex v) fs hs gs b.ideal r.basis;
+  basis = basis-of (residue_ops p) (residue_laws p) (residue_field_laws p) grevlex v (grevlex_orders v) fs hs gs b.ideal r.basis;
   monic = r.monic;
   apart = r.apart;
 }

@@ -6,3 +6,10 @@ pub mod CopiedCofactors
 pub mod ProvedLaws
 pub mod LawCofactors
 pub mod BasisOver
+pub mod KeptBasis
+pub mod GroupCopies
+pub mod CopiedFacts
+pub mod PartCounts
+pub mod PartsInTurn
+pub mod TestedLaws
+pub mod LawsInTurn

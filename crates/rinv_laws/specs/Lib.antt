@@ -4,4 +4,6 @@ pub mod Parts
 pub mod Group
 pub mod Copied
 pub mod Faults
+pub mod Stopped
+pub mod Tested
 pub mod Proofs

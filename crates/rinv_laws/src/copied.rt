@@ -84,7 +84,8 @@ fn chosen_in_copy(
 {
     let mut list = Vec::new(alloc);
     'places: for k in 0..places.len() {
-        let element = in_copy(alloc, from, &polys[places[k]], ring, copy)?;
+        let place = places[k];
+        let element = in_copy(alloc, from, &polys[place], ring, copy)?;
         list.push(element)?;
     }
     Ok(list)

@@ -2,7 +2,7 @@
 
 use crate::law::LawName;
 use rinv_poly::KPoly;
-use rinv_ring::NoMemory;
+use rinv_ring::{NoMemory, RingFault};
 use std::alloc::AllocFailed;
 
 /// The first part of a law that is false, counted from 0, and its normal form modulo the ideal of the points of which the law speaks, in the
@@ -43,5 +43,19 @@ impl<T: Drop> From<AllocFailed<T>> for LawStop {
 
     fn from(_error: AllocFailed<T>) -> LawStop {
         LawStop::NoMemory
+    }
+}
+
+impl From<RingFault> for LawStop {
+    ghost use Rattle.std.specs.Prelude.{◌≡◌};
+    ghost use Rattle.rinv_laws.specs.Stopped.{stop_of};
+
+    ghost from_gives = { λ fault e. e ≡ stop_of fault };
+
+    fn from(fault: RingFault) -> LawStop {
+        match fault {
+            RingFault::Degree { left, right } => LawStop::Degree { left, right },
+            RingFault::NoMemory => LawStop::NoMemory,
+        }
     }
 }

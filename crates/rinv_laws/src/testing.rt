@@ -1,18 +1,45 @@
 //! The test of the laws, one after the other, part by part.
 
-ghost use Rattle.std.specs.Prelude.{IfOk, IfErr, OnOk};
+ghost use Rattle.std.specs.Prelude.{◌≡◌, ◌<◌, ◌^◌, [], map, length, get_or, nat_lt, All, IfOk, IfErr, OnOk};
+ghost use Rattle.rinv_algebra.specs.Residue.{residue_ops};
+ghost use Rattle.rinv_algebra.specs.Order.{grevlex};
+ghost use Rattle.rinv_algebra.specs.Normal.{IsNormal};
+ghost use Rattle.rinv_groebner.specs.Reduced.{kept};
+ghost use Rattle.rinv_div.specs.Divisors.{AreDivisors};
 ghost use Rattle.rinv_defs.specs.SystemForm.{IsSystem};
-ghost use Rattle.rinv_defs.specs.Laws.{AllLawsHold};
+ghost use Rattle.rinv_defs.specs.Laws.{AllLawsHold, LawHolds};
+ghost use Rattle.rinv_laws.specs.LawNames.{law_of};
+ghost use Rattle.rinv_laws.specs.Points.{ArePolynomials};
 ghost use Rattle.rinv_laws.specs.Group.{IsGroupBasis};
-ghost use Rattle.rinv_laws.specs.Copied.{AreAllQuotients};
-ghost use Rattle.rinv_laws.specs.Faults.{TestMeets, LawStopsSo};
+ghost use Rattle.rinv_laws.specs.Copied.{AreQuotients, AreAllQuotients};
+ghost use Rattle.rinv_laws.specs.Faults.{TestMeets, HoldBefore, LawStopsSo};
+ghost use Rattle.rinv_laws.specs.Tested.{LeavesNothing, LeaveNothing, PartStops, PartsStop};
 
+use crate::copied::{CopiedBasis, copied_basis, copies_of};
 use crate::group::GroupBasis;
-use crate::stop::LawStop;
-use rinv_poly::KPoly;
+use crate::law::LawName;
+use crate::parts::parts_of;
+use crate::stop::{LawFault, LawStop};
+use rinv_buch::kept_places;
+use rinv_div::{Division, divide_wholly};
+use rinv_mono::Grevlex;
+use rinv_poly::{KPoly, PolyRing};
+use rinv_ring::{Gf, Ring};
 use rinv_text::System;
 use std::alloc::Global;
 use std::marker::Model;
+
+// The laws in the order in which they are tested.
+const LAWS: [LawName; 8] = [
+    LawName::L1,
+    LawName::L2,
+    LawName::L3,
+    LawName::L4,
+    LawName::L5,
+    LawName::L6,
+    LawName::A1,
+    LawName::A2,
+];
 
 /// For each part of each law the quotients of its division by the kept elements of the group's basis, in the copies of the group's variables
 /// of which the law speaks.
@@ -30,6 +57,78 @@ impl Model for LawQuotients {
     ghost view = { λ t. map (λ parts. map (λ qs. qs.items) parts.items) t.lists.items };
 }
 
+// The quotients of a part of the law by the basis, where its division leaves nothing.
+fn test_part(
+    alloc: Global,
+    ring: &PolyRing<Gf>,
+    law: LawName,
+    place: u32,
+    part: &KPoly,
+    basis: &CopiedBasis,
+) -> Result<Vec<KPoly>, LawStop>
+    requires part { IsNormal (residue_ops ring.now.coeffs) (λ c. nat_lt c ring.now.coeffs) ring.now.vars part.now }
+    requires divisors { AreDivisors (residue_ops ring.now.coeffs) (λ c. nat_lt c ring.now.coeffs) ring.now.vars grevlex basis.now.polys.items basis.now.divisors.list.items }
+    ensures normal { IfOk result (λ qs. ArePolynomials ring.now.coeffs ring.now.vars qs.items) }
+    ensures nothing { IfOk result (λ qs. LeavesNothing ring.now.coeffs basis.now.polys.items part.now qs.items) }
+    ensures stop { IfErr result (PartStops ring.now.coeffs basis.now.polys.items (law_of law) place part.now) }
+{
+    let division = divide_wholly(ring, alloc, part, &basis.polys, &basis.divisors, &Grevlex)?;
+    let Division { quotients, rest } = division;
+    if ring.is_zero(&rest) {
+        Ok(quotients)
+    } else {
+        let part = place;
+        Err(LawStop::Fault(LawFault { law, part, rest }))
+    }
+}
+
+// The quotients of the parts of the law by the basis, where the division of each leaves nothing.
+fn test_parts(
+    alloc: Global,
+    ring: &PolyRing<Gf>,
+    law: LawName,
+    parts: &[KPoly],
+    basis: &CopiedBasis,
+) -> Result<Vec<Vec<KPoly>>, LawStop>
+    requires few { length parts.now < 2 ^ 32 }
+    requires parts { ArePolynomials ring.now.coeffs ring.now.vars parts.now }
+    requires divisors { AreDivisors (residue_ops ring.now.coeffs) (λ c. nat_lt c ring.now.coeffs) ring.now.vars grevlex basis.now.polys.items basis.now.divisors.list.items }
+    ensures normal { IfOk result (λ lists. All (ArePolynomials ring.now.coeffs ring.now.vars) (map (λ qs. qs.items) lists.items)) }
+    ensures nothing { IfOk result (λ lists. LeaveNothing ring.now.coeffs basis.now.polys.items parts.now (map (λ qs. qs.items) lists.items)) }
+    ensures stop { IfErr result (PartsStop ring.now.coeffs basis.now.polys.items (law_of law) parts.now) }
+{
+    let mut lists = Vec::new(alloc);
+    'parts: for k in 0..parts.len() {
+        let quotients = test_part(alloc, ring, law, k as u32, &parts[k], basis)?;
+        lists.push(quotients)?;
+    }
+    Ok(lists)
+}
+
+// Tests a law, those before which hold.
+fn test_law(
+    alloc: Global,
+    system: &System,
+    group: &GroupBasis,
+    places: &[usize],
+    law: LawName,
+) -> Result<Vec<Vec<KPoly>>, LawStop>
+    requires system { IsSystem system.now.system }
+    requires group { IsGroupBasis system.now.system group.now.basis group.now.reduced.items }
+    requires inside { All (λ k. k < length group.now.basis.polys) places.now }
+    requires kept { map (λ k. get_or group.now.basis.polys k []) places.now ≡ kept (residue_ops system.now.system.p) grevlex group.now.basis.polys }
+    requires before { HoldBefore system.now.system (law_of law) }
+    ensures holds { OnOk result (LawHolds system.now.system (law_of law)) }
+    ensures quotients { IfOk result (λ lists. AreQuotients system.now.system group.now.basis (law_of law) (map (λ qs. qs.items) lists.items)) }
+    ensures stop { IfErr result (LawStopsSo system.now.system (TestMeets system.now.system group.now.basis)) }
+{
+    let from = PolyRing::new(system.field, system.group.len());
+    let (ring, parts) = parts_of(alloc, system, law)?;
+    let copies = copies_of(law);
+    let basis = copied_basis(alloc, &from, &group.basis.polys, places, &ring, copies)?;
+    test_parts(alloc, &ring, law, &parts, &basis)
+}
+
 /// Tests the laws in their order, and each part by part, by division by the kept elements of the group's basis. Fault comes exactly where a
 /// part is false, at the first; Degree only where the computation of a part or its division meets these degrees.
 pub fn test_laws(
@@ -43,6 +142,12 @@ pub fn test_laws(
     ensures quotients { IfOk result (AreAllQuotients system.now.system group.now.basis) }
     ensures stop { IfErr result (LawStopsSo system.now.system (TestMeets system.now.system group.now.basis)) }
 {
-    // Never to land: stands for the test while the crates above are proved.
-    Err(LawStop::NoMemory)
+    let ring = PolyRing::new(system.field, system.group.len());
+    let places = kept_places(&ring, alloc, &group.basis.polys, &Grevlex)?;
+    let mut lists = Vec::new(alloc);
+    'laws: for k in 0..LAWS.len() {
+        let quotients = test_law(alloc, system, group, &places, LAWS[k])?;
+        lists.push(quotients)?;
+    }
+    Ok(LawQuotients { lists })
 }
