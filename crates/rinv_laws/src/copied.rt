@@ -9,11 +9,8 @@ ghost use Rattle.rinv_algebra.specs.Normal.{IsNormal};
 ghost use Rattle.rinv_groebner.specs.Division.{AreSame};
 ghost use Rattle.rinv_groebner.specs.Copies.{copies as copied};
 ghost use Rattle.rinv_div.specs.Divisors.{AreDivisors};
-ghost use Rattle.rinv_defs.specs.Laws.{copies};
-ghost use Rattle.rinv_laws.specs.LawNames.{law_of};
 ghost use Rattle.rinv_laws.specs.Points.{ArePolynomials};
 
-use crate::law::LawName;
 use crate::points::appended;
 use rinv_div::{Divisors, divisors_of};
 use rinv_mono::Grevlex;
@@ -27,18 +24,6 @@ use std::alloc::Global;
 pub(crate) struct CopiedBasis {
     pub(crate) polys: Vec<KPoly>,
     pub(crate) divisors: Divisors<Gf>,
-}
-
-// Of how many points of the group the law speaks.
-pub(crate) fn copies_of(law: LawName) -> u32
-    ensures { result ≡ copies (law_of law) }
-{
-    match law {
-        LawName::L1 | LawName::A1 => 0,
-        LawName::L3 | LawName::L5 | LawName::L6 => 1,
-        LawName::L2 | LawName::A2 => 2,
-        LawName::L4 => 3,
-    }
 }
 
 // The polynomial in a copy of its variables, counted from 0, in the ring of a law.

@@ -200,8 +200,8 @@ fn products_move_in_turn(
     let x = space_behind(alloc, system, ring, 2)?;
     let near = moved(alloc, system, ring, &b, &x)?;
     let left = moved(alloc, system, ring, &a, &near)?;
-    let product = times(alloc, system, ring, &a, &b)?;
-    let right = moved(alloc, system, ring, &product, &x)?;
+    let both = times(alloc, system, ring, &a, &b)?;
+    let right = moved(alloc, system, ring, &both, &x)?;
     let parts = differences(alloc, ring, &left, &right)?;
     Ok(parts)
 }

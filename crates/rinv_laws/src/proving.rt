@@ -16,7 +16,6 @@ ghost use Rattle.rinv_laws.specs.Faults.{TestMeets, LawStopsSo};
 ghost use Rattle.rinv_laws.specs.Proofs.{proved_laws, chosen, AreMadeOf, KeepCofactors, MakingMeets, ProvesLaw, ProofsMeet};
 
 use crate::cofactors::{cofactors_in_copies, lists_in_copies};
-use crate::copied::copies_of;
 use crate::group::GroupBasis;
 use crate::law::LawName;
 use crate::parts::variables_of;
@@ -144,7 +143,7 @@ fn cofactors_of_law(
 {
     let from = PolyRing::new(system.field, system.group.len());
     let ring = PolyRing::new(system.field, variables_of(system, law));
-    let copied = lists_in_copies(alloc, &from, lists, places, &ring, copies_of(law))?;
+    let copied = lists_in_copies(alloc, &from, lists, places, &ring, law.copies())?;
     let (kept, count) = (places.len(), system.ideal.len());
     let mut arrays = Vec::with_capacity(alloc, quotients.len())?;
     'parts: for k in 0..quotients.len() {

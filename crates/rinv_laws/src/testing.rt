@@ -15,7 +15,7 @@ ghost use Rattle.rinv_laws.specs.Copied.{AreQuotients, AreAllQuotients};
 ghost use Rattle.rinv_laws.specs.Faults.{TestMeets, HoldBefore, LawStopsSo};
 ghost use Rattle.rinv_laws.specs.Tested.{LeavesNothing, LeaveNothing, PartStops, PartsStop};
 
-use crate::copied::{CopiedBasis, copied_basis, copies_of};
+use crate::copied::{CopiedBasis, copied_basis};
 use crate::group::GroupBasis;
 use crate::law::LawName;
 use crate::parts::parts_of;
@@ -124,7 +124,7 @@ fn test_law(
 {
     let from = PolyRing::new(system.field, system.group.len());
     let (ring, parts) = parts_of(alloc, system, law)?;
-    let copies = copies_of(law);
+    let copies = law.copies();
     let basis = copied_basis(alloc, &from, &group.basis.polys, places, &ring, copies)?;
     test_parts(alloc, &ring, law, &parts, &basis)
 }

@@ -26,7 +26,7 @@ pub lists_in_copies-requires-clause-inside : goal.lists_in_copies-requires-claus
 lists_in_copies-requires-clause-inside c =
     let from_vars = c.new-from.ensures.count ∙ c.len.ensures.len ∙ ap (λ (t : Told). length t.system.group) c.system.view_is in
     let vars = c.new-ring.ensures.count ∙ c.variables_of.ensures in
-    copies-inside c.args.system.now.system (law_of c.args.law) c.copies_of.result c.new-from.result.vars c.new-ring.result.vars c.copies_of.ensures from_vars vars
+    copies-inside c.args.system.now.system (law_of c.args.law) c.copies.result c.new-from.result.vars c.new-ring.result.vars c.copies.ensures from_vars vars
 
 pub cofactors_in_copies-requires-clause-many : goal.cofactors_in_copies-requires-clause-many
 cofactors_in_copies-requires-clause-many c =
@@ -35,7 +35,7 @@ cofactors_in_copies-requires-clause-many c =
     let lists = chosen (map (λ us. us.items) c.args.lists.now) c.args.places.now in
     let made = c.in_ok-copied.copied.items in
     let same = c.in_ok-copied.ensures.value in
-    let number : length c.deref-in-parts.result.now ≡ copies law = ap (λ ls. length ls) c.deref-in-parts.ensures.value ∙ made-number (λ us. us.items) (λ ls. ls.items) c.new-ring.result.coeffs c.new-from.result.vars lists c.copies_of.result made same ∙ c.copies_of.ensures in
+    let number : length c.deref-in-parts.result.now ≡ copies law = ap (λ ls. length ls) c.deref-in-parts.ensures.value ∙ made-number (λ us. us.items) (λ ls. ls.items) c.new-ring.result.coeffs c.new-from.result.vars lists c.copies.result made same ∙ c.copies.ensures in
     let own : length c.index-quotients-k.result.items ≡ copies law * length c.args.places.now =
     subst (λ qs. length qs.items ≡ copies law * length c.args.places.now) (sym c.index-quotients-k.is) (c.requires.many c.parts.k c.index-quotients-k.result c.parts-test.true) in
     ap (λ (qs : List Poly). length qs) c.deref.ensures.value ∙ own ∙ ap (λ (n : ℕ). n * length c.args.places.now) (sym number)
@@ -59,7 +59,7 @@ cofactors_in_copies-requires-clause-kept c =
     let made = c.in_ok-copied.copied.items in
     let same = c.in_ok-copied.ensures.value in
     subst₂ (λ xs (n : ℕ). All (λ ls. length ls.items ≡ n) xs) (sym c.deref-in-parts.ensures.value) (length-map c.args.places.now (λ k. get_or (map (λ us. us.items) c.args.lists.now) k []))
-    (made-kept (λ us. us.items) (λ ls. ls.items) c.new-ring.result.coeffs c.new-from.result.vars lists 0 c.copies_of.result made same)
+    (made-kept (λ us. us.items) (λ ls. ls.items) c.new-ring.result.coeffs c.new-from.result.vars lists 0 c.copies.result made same)
 
 pub cofactors_in_copies-requires-clause-lengths : goal.cofactors_in_copies-requires-clause-lengths
 cofactors_in_copies-requires-clause-lengths c =
@@ -73,7 +73,7 @@ cofactors_in_copies-requires-clause-lengths c =
     chosen-all (λ us. length us ≡ length s.ideal) [] (map (λ us. us.items) c.args.lists.now) (length c.args.lists.now) c.args.places.now (length-map c.args.lists.now (λ us. us.items))
     (All-map (λ us. length us ≡ length s.ideal) (λ us. us.items) c.args.lists.now c.requires.lengths) c.requires.places in
     subst₂ (λ xs (n : ℕ). All (λ ls. All (λ us. length us.items ≡ n) ls.items) xs) (sym c.deref-in-parts.ensures.value) (sym given)
-    (made-lengths (λ us. us.items) (λ ls. ls.items) c.new-ring.result.coeffs c.new-from.result.vars lists (length s.ideal) 0 c.copies_of.result made same long)
+    (made-lengths (λ us. us.items) (λ ls. ls.items) c.new-ring.result.coeffs c.new-from.result.vars lists (length s.ideal) 0 c.copies.result made same long)
 
 pub parts-init : goal.parts-init
 parts-init c = rw c.in_ok-arrays.ensures.items (record { number = refl; each = λ i low. absurd (omega (arith, low)) })
@@ -89,11 +89,11 @@ parts-preserved c =
     let from_vars = c.new-from.ensures.count ∙ c.len.ensures.len ∙ ap (λ (t : Told). length t.system.group) c.system.view_is in
     let vars = c.new-ring.ensures.count ∙ c.variables_of.ensures in
     let given : c.len-count.result ≡ length s.ideal = omega (arith, c.len-count.ensures, ap (λ (t : Told). length t.system.ideal) c.system.view_is) in
-    let of_law : OfLaw s law lists c.new-ring.result.coeffs c.new-ring.result.vars c.new-from.result.vars c.copies_of.result c.len-count.result (length c.args.places.now) = record {
+    let of_law : OfLaw s law lists c.new-ring.result.coeffs c.new-ring.result.vars c.new-from.result.vars c.copies.result c.len-count.result (length c.args.places.now) = record {
       field = field;
       vars = vars;
       own_vars = from_vars;
-      copies_number = c.copies_of.ensures;
+      copies_number = c.copies.ensures;
       given = given;
       kept = sym (length-map c.args.places.now (λ k. get_or (map (λ us. us.items) c.args.lists.now) k []));
     } in
@@ -108,9 +108,9 @@ parts-preserved c =
     let u = c.in_ok-array.array in
     let qs_at : c.deref.result.now ≡ get_or quotients k [] = c.deref.ensures.value ∙ list-at (λ qs. qs.items) [] c.args.quotients.now k c.index-quotients-k.result c.parts-test.true c.index-quotients-k.is in
     let over_made = subst (λ xs. AreInCopies p v (length xs) n kept (λ j. get_or (map (λ ls. map (λ us. us.items) ls.items) xs) j []) c.deref.result.now u.items) c.deref-in-parts.ensures.value c.in_ok-array.ensures.cofactors in
-    let by_copies : AreInCopies p v c.copies_of.result n kept (λ j. get_or views j []) (get_or quotients k []) u.items =
-    subst₂ (λ (m : ℕ) (qs : List Poly). AreInCopies p v m n kept (λ j. get_or views j []) qs u.items) (made-number (λ us. us.items) (λ ls. ls.items) c.new-ring.result.coeffs c.new-from.result.vars lists c.copies_of.result made same) qs_at over_made in
-    let here = law-made s law lists p v c.new-from.result.vars c.copies_of.result n kept of_law views same (get_or quotients k []) u.items by_copies in
+    let by_copies : AreInCopies p v c.copies.result n kept (λ j. get_or views j []) (get_or quotients k []) u.items =
+    subst₂ (λ (m : ℕ) (qs : List Poly). AreInCopies p v m n kept (λ j. get_or views j []) qs u.items) (made-number (λ us. us.items) (λ ls. ls.items) c.new-ring.result.coeffs c.new-from.result.vars lists c.copies.result made same) qs_at over_made in
+    let here = law-made s law lists p v c.new-from.result.vars c.copies.result n kept of_law views same (get_or quotients k []) u.items by_copies in
     rw c.in_ok-push.ensures.items (record {
       number = length_push arrays u ∙ ap (λ (m : ℕ). m + 1) c.parts.invariant.number;
       each = subst (λ (us : List (List Poly)). (i : ℕ) → i < k + 1 → AreInCopies s.p (variables_of s law) (copies law) (length s.ideal) (length lists) (λ j. in_copy s j lists) (get_or quotients i []) (get_or us i [])) (sym (map_push (λ us. us.items) arrays u))
@@ -138,11 +138,11 @@ returns-in_err-array-clause-degree c =
     let from_vars = c.new-from.ensures.count ∙ c.len.ensures.len ∙ ap (λ (t : Told). length t.system.group) c.system.view_is in
     let vars = c.new-ring.ensures.count ∙ c.variables_of.ensures in
     let given : c.len-count.result ≡ length s.ideal = omega (arith, c.len-count.ensures, ap (λ (t : Told). length t.system.ideal) c.system.view_is) in
-    let of_law : OfLaw s law lists c.new-ring.result.coeffs c.new-ring.result.vars c.new-from.result.vars c.copies_of.result c.len-count.result (length c.args.places.now) = record {
+    let of_law : OfLaw s law lists c.new-ring.result.coeffs c.new-ring.result.vars c.new-from.result.vars c.copies.result c.len-count.result (length c.args.places.now) = record {
       field = field;
       vars = vars;
       own_vars = from_vars;
-      copies_number = c.copies_of.ensures;
+      copies_number = c.copies.ensures;
       given = given;
       kept = sym (length-map c.args.places.now (λ k. get_or (map (λ us. us.items) c.args.lists.now) k []));
     } in
@@ -156,7 +156,7 @@ returns-in_err-array-clause-degree c =
     let low : k < length quotients = omega (arith, c.parts-test.true, length-map c.args.quotients.now (λ qs. qs.items)) in
     let fault = c.in_err-array.field-0.0 in
     let over_made = subst (λ xs. DegreesMeet (CopiesMeet p (length xs) kept (λ j. get_or (map (λ ls. map (λ us. us.items) ls.items) xs) j []) qs) fault) c.deref-in-parts.ensures.value c.in_err-array.ensures.degree in
-    let by_copies : DegreesMeet (CopiesMeet p c.copies_of.result kept (λ j. get_or views j []) qs) fault =
-    subst (λ (m : ℕ). DegreesMeet (CopiesMeet p m kept (λ j. get_or views j []) qs) fault) (made-number (λ us. us.items) (λ ls. ls.items) c.new-ring.result.coeffs c.new-from.result.vars lists c.copies_of.result made same) over_made in
+    let by_copies : DegreesMeet (CopiesMeet p c.copies.result kept (λ j. get_or views j []) qs) fault =
+    subst (λ (m : ℕ). DegreesMeet (CopiesMeet p m kept (λ j. get_or views j []) qs) fault) (made-number (λ us. us.items) (λ ls. ls.items) c.new-ring.result.coeffs c.new-from.result.vars lists c.copies.result made same) over_made in
     let q = err_from_is_err_and c.from_residual-in_err-array.result c.from_residual-in_err-array.ensures.1 in
-    rw (q.1, q.2) (law-meets s law lists p c.new-ring.result.vars c.new-from.result.vars c.copies_of.result c.len-count.result kept of_law views same quotients k low qs qs_at fault by_copies)
+    rw (q.1, q.2) (law-meets s law lists p c.new-ring.result.vars c.new-from.result.vars c.copies.result c.len-count.result kept of_law views same quotients k low qs qs_at fault by_copies)

@@ -20,7 +20,7 @@ copied_basis-requires-clause-field c = c.new-from.ensures.ring ∙ ap (λ (t : T
 pub copied_basis-requires-clause-inside : goal.copied_basis-requires-clause-inside
 copied_basis-requires-clause-inside c =
     let count : c.new-from.result.vars ≡ length c.args.system.now.system.group = c.new-from.ensures.count ∙ c.len.ensures.len ∙ ap (λ (t : Told). length t.system.group) c.system.view_is in
-    rw (c.copies_of-copies.ensures, count, c.in_ok-ring.ensures.count) (omega arith)
+    rw (c.copies-copies.ensures, count, c.in_ok-ring.ensures.count) (omega arith)
 
 pub copied_basis-requires-clause-polynomials : goal.copied_basis-requires-clause-polynomials
 copied_basis-requires-clause-polynomials c =
@@ -64,8 +64,8 @@ returns-clause-holds c =
     let count : c.new-from.result.vars ≡ length s.group = c.new-from.ensures.count ∙ c.len.ensures.len ∙ ap (λ (t : Told). length t.system.group) c.system.view_is in
     let polys : c.deref.result.now ≡ found.polys = c.deref.ensures.value ∙ ap (λ (g : GroupBasis). g.basis.polys) c.group.view_is in
     answer-holds s found c.args.group.now.reduced.items c.requires.system c.requires.group law c.in_ok-ring.ring.coeffs c.in_ok-ring.ring.vars c.deref-2.result.now c.in_ok-ring.parts.items hs
-    (copied c.copies_of-copies.result c.new-from.result.vars (map (λ k. get_or c.deref.result.now k []) c.args.places.now)) c.in_ok-ring.ensures.field c.in_ok-ring.ensures.count c.deref-2.ensures.value c.in_ok-ring.ensures.value
-    (copies-are s found law c.copies_of-copies.result c.new-from.result.vars c.deref.result.now c.args.places.now c.copies_of-copies.ensures count polys c.requires.kept) c.in_ok-basis.ensures.value c.in_ok-basis.ensures.normal
+    (copied c.copies-copies.result c.new-from.result.vars (map (λ k. get_or c.deref.result.now k []) c.args.places.now)) c.in_ok-ring.ensures.field c.in_ok-ring.ensures.count c.deref-2.ensures.value c.in_ok-ring.ensures.value
+    (copies-are s found law c.copies-copies.result c.new-from.result.vars c.deref.result.now c.args.places.now c.copies-copies.ensures count polys c.requires.kept) c.in_ok-basis.ensures.value c.in_ok-basis.ensures.normal
     (λ lists. map (λ qs. qs.items) lists.items) c.test_parts.result c.test_parts.ensures.nothing
 
 pub returns-clause-quotients : goal.returns-clause-quotients
@@ -77,8 +77,8 @@ returns-clause-quotients c =
     let count : c.new-from.result.vars ≡ length s.group = c.new-from.ensures.count ∙ c.len.ensures.len ∙ ap (λ (t : Told). length t.system.group) c.system.view_is in
     let polys : c.deref.result.now ≡ found.polys = c.deref.ensures.value ∙ ap (λ (g : GroupBasis). g.basis.polys) c.group.view_is in
     answer-quotients s found c.args.group.now.reduced.items c.requires.system c.requires.group law c.in_ok-ring.ring.coeffs c.in_ok-ring.ring.vars c.deref-2.result.now c.in_ok-ring.parts.items hs
-    (copied c.copies_of-copies.result c.new-from.result.vars (map (λ k. get_or c.deref.result.now k []) c.args.places.now)) c.in_ok-ring.ensures.field c.in_ok-ring.ensures.count c.deref-2.ensures.value c.in_ok-ring.ensures.value
-    (copies-are s found law c.copies_of-copies.result c.new-from.result.vars c.deref.result.now c.args.places.now c.copies_of-copies.ensures count polys c.requires.kept) c.in_ok-basis.ensures.value c.in_ok-basis.ensures.normal
+    (copied c.copies-copies.result c.new-from.result.vars (map (λ k. get_or c.deref.result.now k []) c.args.places.now)) c.in_ok-ring.ensures.field c.in_ok-ring.ensures.count c.deref-2.ensures.value c.in_ok-ring.ensures.value
+    (copies-are s found law c.copies-copies.result c.new-from.result.vars c.deref.result.now c.args.places.now c.copies-copies.ensures count polys c.requires.kept) c.in_ok-basis.ensures.value c.in_ok-basis.ensures.normal
     (λ lists. map (λ qs. qs.items) lists.items) c.test_parts.result c.test_parts.ensures.normal c.test_parts.ensures.nothing
 
 pub returns-clause-stop : goal.returns-clause-stop
@@ -90,8 +90,8 @@ returns-clause-stop c =
     let count : c.new-from.result.vars ≡ length s.group = c.new-from.ensures.count ∙ c.len.ensures.len ∙ ap (λ (t : Told). length t.system.group) c.system.view_is in
     let polys : c.deref.result.now ≡ found.polys = c.deref.ensures.value ∙ ap (λ (g : GroupBasis). g.basis.polys) c.group.view_is in
     answer-stops s found c.args.group.now.reduced.items c.requires.system c.requires.group law c.in_ok-ring.ring.coeffs c.in_ok-ring.ring.vars c.deref-2.result.now c.in_ok-ring.parts.items hs
-    (copied c.copies_of-copies.result c.new-from.result.vars (map (λ k. get_or c.deref.result.now k []) c.args.places.now)) c.in_ok-ring.ensures.field c.in_ok-ring.ensures.count c.deref-2.ensures.value c.in_ok-ring.ensures.value
-    (copies-are s found law c.copies_of-copies.result c.new-from.result.vars c.deref.result.now c.args.places.now c.copies_of-copies.ensures count polys c.requires.kept) c.in_ok-basis.ensures.value c.in_ok-basis.ensures.normal
+    (copied c.copies-copies.result c.new-from.result.vars (map (λ k. get_or c.deref.result.now k []) c.args.places.now)) c.in_ok-ring.ensures.field c.in_ok-ring.ensures.count c.deref-2.ensures.value c.in_ok-ring.ensures.value
+    (copies-are s found law c.copies-copies.result c.new-from.result.vars c.deref.result.now c.args.places.now c.copies-copies.ensures count polys c.requires.kept) c.in_ok-basis.ensures.value c.in_ok-basis.ensures.normal
     c.test_parts.result c.requires.before c.test_parts.ensures.stop
 
 pub returns-in_err-ring-clause-stop : goal.returns-in_err-ring-clause-stop
