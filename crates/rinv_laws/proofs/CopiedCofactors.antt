@@ -5,7 +5,7 @@
 --   quotient-of          a product with a cofactor made is one with the cofactor's copy
 --   products-meet, copy-meets    the degrees that are met
 --   lists-more, ranged-more, copies-more    one list, one place, one copy more
-use Rattle.std.proofs.Common.{◌≡◌, ◌⊎◌, inl, inr, ℕ, zero, suc, ◌+◌, ◌-◌, ◌*◌, ◌<◌, ◌≤◌, not, true, true≢false, List, [], ◌∷◌, ◌++◌, length, length-append, get_or, take, drop, map, All, refl, sym, ◌∙◌, ap, subst, subst₂, nat_lt, arith}
+use Rattle.std.proofs.Common.{◌≡◌, inl, inr, ℕ, zero, suc, ◌+◌, ◌-◌, ◌*◌, ◌<◌, ◌≤◌, not, true≢false, List, [], ◌∷◌, ◌++◌, length, length-append, get_or, take, drop, map, refl, sym, ◌∙◌, ap, subst, subst₂, nat_lt, arith}
 use Rattle.std.specs.List.{range_with_len, AllZip}
 use Rattle.std.proofs.lemmas.Bool.{cases_lt}
 use Rattle.std.proofs.lemmas.List.{length-map, length-take, map_push, get_or-map, get_or-take, get_or-drop, get_or_past, get_or_append_left, get_or-append-add}

@@ -5,12 +5,12 @@
 --   quotients-number, all-many    a part has as many quotients as there are lists in all copies
 --   law-proved           the cofactors over the copies prove the law
 --   copies-making, making-meets    the degrees that are met
-use Rattle.std.proofs.Common.{◌≡◌, ℕ, ◌+◌, ◌*◌, ◌<◌, List, [], ◌∷◌, length, get_or, map, All, IsTrue, refl, sym, ◌∙◌, ap, subst, arith}
+use Rattle.std.proofs.Common.{◌≡◌, ℕ, ◌+◌, ◌*◌, ◌<◌, List, [], ◌∷◌, length, get_or, map, All, IsTrue, sym, ◌∙◌, ap, subst, arith}
 use Rattle.std.specs.List.{range_with_len, AllZip}
 use Rattle.std.proofs.lemmas.List.{length-map}
 use Rattle.std.proofs.lemmas.List.Elements.{length_all_zip, All-nil, All-cons, All-head, All-tail, All-map, All-weaker, All-get_or, All-from_get_or}
 use Rattle.std.proofs.lemmas.List.FromFn.{length-range_with_len}
-use Rattle.rinv_algebra.specs.Ring.{RingOps, RingLaws, IsSame}
+use Rattle.rinv_algebra.specs.Ring.{RingOps, IsSame}
 use Rattle.rinv_algebra.specs.Residue.{residue_ops}
 use Rattle.rinv_algebra.specs.Order.{grevlex}
 use Rattle.rinv_algebra.specs.Polynomial.{Polynomial, poly_ops, is_zero}
@@ -28,7 +28,7 @@ use Rattle.rinv_buch.specs.Reducing.{kept_places}
 use Rattle.rinv_buch.specs.Combining.{Combines, cofactor}
 use Rattle.rinv_buch.proofs.CombinedSums.{combination-right}
 use Rattle.rinv_defs.specs.System.{System, Poly, group_count, ideal_copies}
-use Rattle.rinv_defs.specs.Laws.{Law, copies, parts}
+use Rattle.rinv_defs.specs.Laws.{Law, copies}
 use Rattle.rinv_laws.specs.declared.stop.LawStop.{LawStop}
 use Rattle.rinv_laws.specs.declared.stop.LawStop.TheVariants.{Fault, Degree, NoMemory}
 use Rattle.rinv_laws.specs.LawNames.{rank, variables_of}

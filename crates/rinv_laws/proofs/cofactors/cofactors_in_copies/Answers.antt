@@ -1,4 +1,4 @@
-use Rattle.std.proofs.Common.{◌≡◌, ◌<◌, ◌≤◌, ◌+◌, ◌-◌, ◌*◌, ◌∙◌, ℕ, List, [], length, map, take, drop, get_or, arith, ap, sym, subst, subst₂}
+use Rattle.std.proofs.Common.{◌≡◌, ◌+◌, ◌-◌, ◌*◌, ◌∙◌, ℕ, List, [], length, map, take, drop, get_or, arith, ap, subst, subst₂}
 use Rattle.std.proofs.lemmas.Result.{err_from_is_err_and}
 use Rattle.rinv_algebra.specs.Ring.{IsSame}
 use Rattle.rinv_algebra.specs.Residue.{residue_ops}
@@ -7,7 +7,7 @@ use Rattle.rinv_algebra.specs.Ideal.{combination}
 use Rattle.rinv_ring.specs.Fault.{DegreesMeet}
 use Rattle.rinv_buch.specs.Combining.{column}
 use Rattle.rinv_defs.specs.System.{Poly}
-use Rattle.rinv_laws.specs.Proofs.{AreInCopies, ProductsMeet, quotients_in}
+use Rattle.rinv_laws.specs.Proofs.{AreInCopies, ProductsMeet}
 use Rattle.rinv_laws.proofs.CopiedCofactors.{copies-none, copies-more, copy-meets, list-at, part-of}
 use Rattle.rinv_laws.proofs.cofactors.cofactors_in_copies.Goals as goal
 

@@ -1,4 +1,4 @@
-use Rattle.std.proofs.Common.{◌≡◌, ◌*◌, List, map, subst, nat_lt}
+use Rattle.std.proofs.Common.{◌*◌, List, map, subst, nat_lt}
 use Rattle.std.proofs.lemmas.List.{take_all}
 use Rattle.std.proofs.lemmas.List.Elements.{All-nil, All-push}
 use Rattle.rinv_algebra.specs.Residue.{residue_ops}

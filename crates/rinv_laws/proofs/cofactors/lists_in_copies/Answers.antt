@@ -1,4 +1,4 @@
-use Rattle.std.proofs.Common.{◌≡◌, ◌*◌, List, ℕ, map, subst, nat_lt, All, arith, length}
+use Rattle.std.proofs.Common.{◌≡◌, ◌*◌, ℕ, map, subst, All, arith}
 use Rattle.std.specs.List.{AllZip, range_with_len}
 use Rattle.std.proofs.lemmas.List.Elements.{All-nil, All-push}
 use Rattle.std.proofs.lemmas.Nat.{row_fits}

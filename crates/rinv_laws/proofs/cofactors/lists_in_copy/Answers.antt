@@ -1,4 +1,4 @@
-use Rattle.std.proofs.Common.{◌≡◌, ◌∙◌, ◌*◌, List, [], ℕ, map, get_or, subst, All}
+use Rattle.std.proofs.Common.{◌∙◌, ◌*◌, List, [], ℕ, map, get_or, subst}
 use Rattle.std.specs.List.{AllZip}
 use Rattle.std.proofs.lemmas.List.{take_all, get_or_default}
 use Rattle.std.proofs.lemmas.List.Elements.{All-nil, All-push}

@@ -1,6 +1,6 @@
-use Rattle.std.proofs.Common.{◌≡◌, ◌<◌, ◌∙◌, ◌+◌, ℕ, [], length, map, get_or, arith, ap, nat_lt, subst}
+use Rattle.std.proofs.Common.{◌∙◌, ◌+◌, ℕ, [], map, ap, nat_lt}
 use Rattle.std.proofs.lemmas.List.{length_push}
-use Rattle.std.proofs.lemmas.List.Elements.{All-nil, All-push}
+use Rattle.std.proofs.lemmas.List.Elements.{All-push}
 use Rattle.std.proofs.lemmas.Result.{err_from_is_err_and}
 use Rattle.rinv_algebra.specs.Ring.{IsSame}
 use Rattle.rinv_algebra.specs.Residue.{residue_ops}

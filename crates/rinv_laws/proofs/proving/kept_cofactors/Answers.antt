@@ -14,7 +14,7 @@ use Rattle.rinv_text.proofs.SystemParts.{parts-of}
 use Rattle.rinv_buch.specs.Kinds.{Found}
 use Rattle.rinv_buch.specs.Reducing.{kept_places}
 use Rattle.rinv_laws.specs.Points.{ArePolynomials}
-use Rattle.rinv_laws.proofs.BasisOver.{IsBasisOver, basis-over, combining-over}
+use Rattle.rinv_laws.proofs.BasisOver.{basis-over, combining-over}
 use Rattle.rinv_laws.proofs.ProvedLaws.{chosen-keep}
 use Rattle.rinv_laws.proofs.proving.kept_cofactors.Goals as goal
 

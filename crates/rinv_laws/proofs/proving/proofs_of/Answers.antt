@@ -1,4 +1,4 @@
-use Rattle.std.proofs.Common.{◌≡◌, ◌⊎◌, inl, inr, ◌<◌, ◌∙◌, ◌++◌, ◌*◌, ◌∷◌, ℕ, List, [], length, map, get_or, arith, ap, sym, subst, subst₂, All, refl}
+use Rattle.std.proofs.Common.{◌≡◌, inl, inr, ◌∙◌, ◌++◌, ◌*◌, ◌∷◌, ℕ, List, [], length, map, get_or, arith, ap, sym, subst, subst₂, All, refl}
 use Rattle.std.proofs.lemmas.List.{length-map, map_push, take_all}
 use Rattle.std.proofs.lemmas.List.Elements.{All-nil, All-push}
 use Rattle.std.proofs.lemmas.Result.{err_from_is_err_and}
@@ -10,7 +10,7 @@ use Rattle.rinv_sub.proofs.Sums.{take-at}
 use Rattle.rinv_buch.specs.Combining.{CombiningMeets}
 use Rattle.rinv_defs.specs.System.{Poly}
 use Rattle.rinv_defs.specs.Laws.{Law, copies}
-use Rattle.rinv_laws.specs.LawNames.{law_of, rank, variables_of}
+use Rattle.rinv_laws.specs.LawNames.{law_of, variables_of}
 use Rattle.rinv_laws.specs.Points.{ArePolynomials}
 use Rattle.rinv_laws.specs.Group.{never}
 use Rattle.rinv_laws.specs.Copied.{AreQuotients}
