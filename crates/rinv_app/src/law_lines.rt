@@ -44,30 +44,36 @@ pub(crate) fn refused_line(alloc: Global, refused: Refused) -> Result<Vec<u8>, N
     ensures { IfOk result (λ v. v.items ≡ refused_line_text refused) }
 {
     let Refused { line, code } = refused;
-    let text = format!(in alloc; "refused line {line} {code}\n")?;
-    Ok(text.into_bytes())
+    let line = format!(in alloc; "refused line {line} {code}\n")?;
+    Ok(line.into_bytes())
 }
 
 /// Why the run on the group's ideal halted.
 pub(crate) fn halted_line(alloc: Global, system: &System, why: &Why) -> Result<Vec<u8>, NoMemory>
     ensures { IfOk result (λ v. v.items ≡ incomplete_text (codes "group") (why_text system.now why.now)) }
 {
-    let text = match why {
-        Why::Pairs { .. } => format!(in alloc; "incomplete group pairs {}\n", system.pairs)?,
-        Why::Steps { .. } => format!(in alloc; "incomplete group steps {}\n", system.steps)?,
-        Why::Degree { left, right } => {
-            format!(in alloc; "incomplete group degree {left} {right}\n")?
+    match why {
+        Why::Pairs { .. } => {
+            let line = format!(in alloc; "incomplete group pairs {}\n", system.pairs)?;
+            Ok(line.into_bytes())
         }
-    };
-    Ok(text.into_bytes())
+        Why::Steps { .. } => {
+            let line = format!(in alloc; "incomplete group steps {}\n", system.steps)?;
+            Ok(line.into_bytes())
+        }
+        Why::Degree { left, right } => {
+            let line = format!(in alloc; "incomplete group degree {left} {right}\n")?;
+            Ok(line.into_bytes())
+        }
+    }
 }
 
 /// The degrees that the test of the laws met.
 pub(crate) fn degrees_line(alloc: Global, left: u32, right: u32) -> Result<Vec<u8>, NoMemory>
     ensures { IfOk result (λ v. v.items ≡ incomplete_text (codes "laws") (degrees_text left right)) }
 {
-    let text = format!(in alloc; "incomplete laws degree {left} {right}\n")?;
-    Ok(text.into_bytes())
+    let line = format!(in alloc; "incomplete laws degree {left} {right}\n")?;
+    Ok(line.into_bytes())
 }
 
 // The names of the variables in which the law is written.
