@@ -3,12 +3,11 @@
 --   copies-are, answer-holds, answer-quotients, answer-stops    the same, in the ring of a function
 --   parts-stop                             its parts cannot be computed
 use Rattle.std.specs.Prelude.{Result, Ok, Err, IfOk, IfErr, OnOk}
-use Rattle.std.proofs.Common.{map, nat_lt, ◌≡◌, ◌⊎◌, ℕ, ◌+◌, ◌<◌, List, [], ◌∷◌, ◌++◌, length, take, get_or, refl, sym, ap, ◌∙◌, subst, subst₂, inl, inr, arith, All, IsTrue, false}
-use Rattle.std.proofs.lemmas.List.{get_or_default, get_or-take, length-take, length-append}
+use Rattle.std.proofs.Common.{map, nat_lt, ◌≡◌, ℕ, ◌+◌, ◌<◌, List, [], length, take, get_or, refl, sym, ◌∙◌, subst, subst₂, arith, All, false}
+use Rattle.std.proofs.lemmas.List.{get_or_default, get_or-take, length-take}
 use Rattle.rinv_algebra.specs.Residue.{residue_ops}
 use Rattle.rinv_algebra.specs.Monomial.{max_degree}
 use Rattle.rinv_algebra.specs.Order.{grevlex}
-use Rattle.rinv_algebra.specs.Polynomial.{Polynomial}
 use Rattle.rinv_algebra.specs.Ideal.{IsMember}
 use Rattle.rinv_algebra.proofs.ResidueField.{residue_field_laws}
 use Rattle.rinv_algebra.proofs.ResidueLaws.{residue_laws}
@@ -25,10 +24,9 @@ use Rattle.rinv_buch.proofs.InVariables.{all-in_variables}
 use Rattle.rinv_defs.specs.System.{System, Poly, group_count, ideal_copies}
 use Rattle.rinv_defs.specs.SystemForm.{IsSystem}
 use Rattle.rinv_defs.specs.Laws.{Law, copies, parts, LawHolds}
-use Rattle.rinv_defs.specs.Rest.{IsRest}
 use Rattle.rinv_laws.specs.declared.stop.LawStop.{LawStop}
 use Rattle.rinv_laws.specs.declared.stop.LawStop.TheVariants.{Fault, Degree, NoMemory}
-use Rattle.rinv_laws.specs.LawNames.{rank, variables_of}
+use Rattle.rinv_laws.specs.LawNames.{variables_of}
 use Rattle.rinv_laws.specs.Points.{ArePolynomials}
 use Rattle.rinv_laws.specs.Parts.{parts_fit}
 use Rattle.rinv_laws.specs.Copied.{part_at, kept_copies, IsAsked, AreQuotients}

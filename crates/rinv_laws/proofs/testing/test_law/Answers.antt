@@ -1,11 +1,11 @@
-use Rattle.std.proofs.Common.{◌≡◌, ◌+◌, ◌*◌, ◌∙◌, ℕ, List, map, length, sym, ap, arith, nat_lt, [], get_or}
+use Rattle.std.proofs.Common.{◌≡◌, ◌∙◌, List, map, length, sym, ap, arith, [], get_or}
 use Rattle.std.proofs.lemmas.Result.{err_from_is_err_and}
 use Rattle.rinv_algebra.specs.Residue.{residue_ops}
 use Rattle.rinv_groebner.specs.Copies.{copies as copied}
 use Rattle.rinv_groebner.proofs.UniqueSteps.{same-length}
 use Rattle.rinv_text.specs.Told.{Told}
 use Rattle.rinv_defs.specs.System.{Poly}
-use Rattle.rinv_defs.specs.Laws.{Law, parts}
+use Rattle.rinv_defs.specs.Laws.{parts}
 use Rattle.rinv_laws.specs.declared.group.GroupBasis.{GroupBasis}
 use Rattle.rinv_laws.specs.LawNames.{law_of, variables_of}
 use Rattle.rinv_laws.proofs.Computed.{over}
