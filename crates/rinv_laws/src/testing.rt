@@ -77,8 +77,11 @@ fn test_part(
     if ring.is_zero(&rest) {
         Ok(quotients)
     } else {
-        let part = place;
-        Err(LawStop::Fault(LawFault { law, part, rest }))
+        Err(LawStop::Fault(LawFault {
+            law,
+            part: place,
+            rest,
+        }))
     }
 }
 
