@@ -1,8 +1,9 @@
 -- What the test of the laws answers where it does not find that all hold.
-use Rattle.std.specs.Prelude.{◌≡◌, ℕ, ◌+◌, ◌<◌, false, List, length, ⊤}
+use Rattle.std.specs.Prelude.{◌≡◌, ℕ, ◌+◌, ◌<◌, false, List, length, nat_lt, ⊤}
 use Rattle.rinv_algebra.specs.Residue.{residue_ops}
 use Rattle.rinv_algebra.specs.Monomial.{max_degree}
 use Rattle.rinv_algebra.specs.Order.{grevlex}
+use Rattle.rinv_algebra.specs.Normal.{IsNormal}
 use Rattle.rinv_algebra.specs.Ideal.{IsMember}
 use Rattle.rinv_div.specs.Stops.{StepsMeet}
 use Rattle.rinv_buch.specs.Kinds.{Found}
@@ -11,7 +12,7 @@ use Rattle.rinv_defs.specs.Laws.{Law, copies, parts, LawHolds}
 use Rattle.rinv_defs.specs.Rest.{IsRest}
 use Rattle.rinv_laws.specs.declared.stop.LawStop.{LawStop}
 use Rattle.rinv_laws.specs.declared.stop.LawStop.TheVariants.{Fault, Degree, NoMemory}
-use Rattle.rinv_laws.specs.LawNames.{law_of, rank}
+use Rattle.rinv_laws.specs.LawNames.{law_of, rank, variables_of}
 use Rattle.rinv_laws.specs.Parts.{parts_fit}
 use Rattle.rinv_laws.specs.Copied.{part_at, IsAsked}
 use Rattle.rinv_laws.specs.Group.{never}
@@ -42,8 +43,8 @@ pub data TestMeets (s : System) (found : Found ℕ) (x y : ℕ) : Type 0 where
   in_division : (law : Law) (k : ℕ) (f : Poly) (hs : List Poly) → HoldsUpTo s law k → k < length (parts s law) → IsAsked s found law k f hs
       → StepsMeet (residue_ops s.p) grevlex hs f never x y → TestMeets s found x y
 
--- a fault is the first one, and degrees are met so; want of memory says nothing
+-- a fault is the first one, with its rest in the variables of the law, and degrees are met so; want of memory says nothing
 abbrev pub LawStopsSo : System → (ℕ → ℕ → Type 0) → LawStop → Type 0
-LawStopsSo s Meets (Fault f) = IsFirstFault s (law_of f.law) f.part f.rest
+LawStopsSo s Meets (Fault f) = IsFirstFault s (law_of f.law) f.part f.rest × IsNormal (residue_ops s.p) (λ c. nat_lt c s.p) (variables_of s (law_of f.law)) f.rest
 LawStopsSo s Meets (Degree x y) = Meets x y
 LawStopsSo s Meets NoMemory = ⊤
