@@ -92,7 +92,7 @@ returns-clause-stop c =
     answer-stops s found c.args.group.now.reduced.items c.requires.system c.requires.group law c.in_ok-ring.ring.coeffs c.in_ok-ring.ring.vars c.deref-2.result.now c.in_ok-ring.parts.items hs
     (copied c.copies_of-copies.result c.new-from.result.vars (map (λ k. get_or c.deref.result.now k []) c.args.places.now)) c.in_ok-ring.ensures.field c.in_ok-ring.ensures.count c.deref-2.ensures.value c.in_ok-ring.ensures.value
     (copies-are s found law c.copies_of-copies.result c.new-from.result.vars c.deref.result.now c.args.places.now c.copies_of-copies.ensures count polys c.requires.kept) c.in_ok-basis.ensures.value c.in_ok-basis.ensures.normal
-    c.test_parts.result c.requires.before c.test_parts.ensures.stop
+    c.test_parts.result c.requires.before c.test_parts.ensures.stop c.test_parts.ensures.fault
 
 pub returns-in_err-ring-clause-stop : goal.returns-in_err-ring-clause-stop
 returns-in_err-ring-clause-stop c =
