@@ -2,7 +2,7 @@
 --   kept-basis           the kept elements are one of the same ideal
 --   same-basis           so are polynomials that are the same, place by place
 --   divided-member, rest-congruent, rest-reduced, rest-outside    what division leaves
-use Rattle.std.proofs.Common.{◌≡◌, ℕ, ◌<◌, Bool, true, false, not, cond, List, [], ◌∷◌, ◌++◌, length, get_or, refl, sym, ◌∙◌, subst, IsTrue, true≢false}
+use Rattle.std.proofs.Common.{◌≡◌, ℕ, ◌<◌, Bool, true, false, not, cond, List, [], ◌∷◌, ◌++◌, get_or, refl, sym, ◌∙◌, subst, IsTrue, true≢false}
 use Rattle.std.specs.Prelude.{IsFalse}
 use Rattle.std.specs.List.{list_all}
 use Rattle.std.specs.declared.cmp.Ordering.{Ordering}

@@ -3,12 +3,12 @@
 --   copies-are, answer-holds, answer-quotients, answer-stops    the same, in the ring of a function
 --   parts-stop                             its parts cannot be computed
 use Rattle.std.specs.Prelude.{Result, Ok, Err, IfOk, IfErr, OnOk}
-use Rattle.std.proofs.Common.{map, nat_lt, ◌≡◌, ◌⊎◌, ℕ, ◌+◌, ◌<◌, List, [], ◌∷◌, ◌++◌, length, take, get_or, refl, sym, ap, ◌∙◌, subst, subst₂, inl, inr, arith, All, IsTrue, false}
-use Rattle.std.proofs.lemmas.List.{get_or_default, get_or-take, length-take, length-append}
+use Rattle.std.proofs.Common.{map, nat_lt, ◌≡◌, ℕ, ◌+◌, ◌<◌, List, [], length, take, get_or, refl, sym, ◌∙◌, subst, subst₂, arith, All, false}
+use Rattle.std.proofs.lemmas.List.{get_or_default, get_or-take, length-take}
 use Rattle.rinv_algebra.specs.Residue.{residue_ops}
 use Rattle.rinv_algebra.specs.Monomial.{max_degree}
 use Rattle.rinv_algebra.specs.Order.{grevlex}
-use Rattle.rinv_algebra.specs.Polynomial.{Polynomial}
+use Rattle.rinv_algebra.specs.Normal.{IsNormal}
 use Rattle.rinv_algebra.specs.Ideal.{IsMember}
 use Rattle.rinv_algebra.proofs.ResidueField.{residue_field_laws}
 use Rattle.rinv_algebra.proofs.ResidueLaws.{residue_laws}
@@ -25,17 +25,16 @@ use Rattle.rinv_buch.proofs.InVariables.{all-in_variables}
 use Rattle.rinv_defs.specs.System.{System, Poly, group_count, ideal_copies}
 use Rattle.rinv_defs.specs.SystemForm.{IsSystem}
 use Rattle.rinv_defs.specs.Laws.{Law, copies, parts, LawHolds}
-use Rattle.rinv_defs.specs.Rest.{IsRest}
 use Rattle.rinv_laws.specs.declared.stop.LawStop.{LawStop}
 use Rattle.rinv_laws.specs.declared.stop.LawStop.TheVariants.{Fault, Degree, NoMemory}
-use Rattle.rinv_laws.specs.LawNames.{rank, variables_of}
+use Rattle.rinv_laws.specs.LawNames.{variables_of}
 use Rattle.rinv_laws.specs.Points.{ArePolynomials}
 use Rattle.rinv_laws.specs.Parts.{parts_fit}
 use Rattle.rinv_laws.specs.Copied.{part_at, kept_copies, IsAsked, AreQuotients}
 use Rattle.rinv_laws.specs.Faults.{PartHolds, HoldBefore, HoldsUpTo, IsFirstFault, TestMeets, LawStopsSo}
 use Rattle.rinv_laws.specs.Group.{IsGroupBasis}
 use Rattle.rinv_laws.specs.Stopped.{stop_of}
-use Rattle.rinv_laws.specs.Tested.{LeavesNothing, LeaveNothing, LeavesRest, PartsStop}
+use Rattle.rinv_laws.specs.Tested.{LeavesNothing, LeaveNothing, LeavesRest, PartsStop, FaultIn}
 use Rattle.rinv_laws.proofs.Computed.{over}
 use Rattle.rinv_laws.proofs.GroupCopies.{copied-basis}
 use Rattle.rinv_laws.proofs.KeptBasis.{divided-member, rest-congruent, rest-reduced, rest-outside}
@@ -88,12 +87,12 @@ module _ (s : System) (found : Found ℕ) (reduced : List Poly) (system : IsSyst
       }
 
   -- it is false, or a division meets degrees
-  pub law-stops : HoldBefore s law → (e : LawStop) → PartsStop s.p hs law fs e → LawStopsSo s (TestMeets s found) e
-  law-stops before (Fault t) h =
+  pub law-stops : HoldBefore s law → (e : LawStop) → PartsStop s.p hs law fs e → FaultIn s.p (variables_of s law) e → LawStopsSo s (TestMeets s found) e
+  law-stops before (Fault t) h n =
       let so : _ × _ × LeavesRest s.p hs (get_or fs h.place []) t.rest = h.stops in
-      subst₂ (λ l k. IsFirstFault s l k t.rest) (sym so.0) (sym so.1) (first-fault h.place h.inside (up-to before h.place h.inside h.lists h.before) t.rest so.2)
-  law-stops before (Degree x y) h = TestMeets.in_division law h.place (get_or fs h.place []) hs (up-to before h.place h.inside h.lists h.before) (omega (arith, h.inside, many)) (asked h.place) h.stops
-  law-stops before NoMemory h = tt
+      (subst₂ (λ l k. IsFirstFault s l k t.rest) (sym so.0) (sym so.1) (first-fault h.place h.inside (up-to before h.place h.inside h.lists h.before) t.rest so.2), subst (λ l. IsNormal (residue_ops s.p) (λ c. nat_lt c s.p) (variables_of s l) t.rest) (sym so.0) n)
+  law-stops before (Degree x y) h n = TestMeets.in_division law h.place (get_or fs h.place []) hs (up-to before h.place h.inside h.lists h.before) (omega (arith, h.inside, many)) (asked h.place) h.stops
+  law-stops before NoMemory h n = tt
 
 -- the copies of the chosen elements are those of the kept ones
 pub copies-are : (s : System) (found : Found ℕ) (law : Law) (c v : ℕ) (fs : List Poly) (places : List ℕ) → c ≡ copies law → v ≡ group_count s → fs ≡ found.polys
@@ -121,9 +120,9 @@ module _ (s : System) (found : Found ℕ) (reduced : List Poly) (system : IsSyst
   answer-quotients lists (Ok x) n h = law-quotients s found reduced system group law gs hs alike same-copies hs_in (lists x) (subst₂ (λ (q w : ℕ). All (ArePolynomials q w) (lists x)) field count n) (nothing (lists x) h)
   answer-quotients lists (Err e) n h = h
 
-  pub answer-stops : {X : Type 0} (result : Result X LawStop) → HoldBefore s law → IfErr result (PartsStop p hs law fs) → IfErr result (LawStopsSo s (TestMeets s found))
-  answer-stops (Ok x) before h = h
-  answer-stops (Err e) before h = law-stops s found reduced system group law gs hs alike same-copies hs_in before e (subst₂ (λ (q : ℕ) (xs : List Poly). PartsStop q hs law xs e) field is h)
+  pub answer-stops : {X : Type 0} (result : Result X LawStop) → HoldBefore s law → IfErr result (PartsStop p hs law fs) → IfErr result (FaultIn p v) → IfErr result (LawStopsSo s (TestMeets s found))
+  answer-stops (Ok x) before h n = h
+  answer-stops (Err e) before h n = law-stops s found reduced system group law gs hs alike same-copies hs_in before e (subst₂ (λ (q : ℕ) (xs : List Poly). PartsStop q hs law xs e) field is h) (subst₂ (λ (q w : ℕ). FaultIn q w e) field count n)
 
 pub parts-stop : (s : System) (found : Found ℕ) (law : Law) → HoldBefore s law → (e : RingFault) → DegreesMeet (λ x y. (max_degree < x + y) × (parts_fit s law ≡ false)) e → LawStopsSo s (TestMeets s found) (stop_of e)
 parts-stop s found law before (RingDegree x y) h = TestMeets.in_parts law before h.0 h.1

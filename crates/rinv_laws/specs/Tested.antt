@@ -1,8 +1,9 @@
 -- What dividing the parts of a law answers, told of lists of polynomials alone.
-use Rattle.std.specs.Prelude.{◌≡◌, ℕ, ◌<◌, List, [], length, get_or, take, IsTrue, IsFalse, ⊤}
+use Rattle.std.specs.Prelude.{◌≡◌, ℕ, ◌<◌, List, [], length, get_or, take, nat_lt, IsTrue, IsFalse, ⊤}
 use Rattle.rinv_algebra.specs.Residue.{residue_ops}
 use Rattle.rinv_algebra.specs.Order.{grevlex}
 use Rattle.rinv_algebra.specs.Polynomial.{is_zero}
+use Rattle.rinv_algebra.specs.Normal.{IsNormal}
 use Rattle.rinv_groebner.specs.Division.{Step, IsDivision}
 use Rattle.rinv_div.specs.Stops.{Divides, StepsMeet}
 use Rattle.rinv_defs.specs.System.{Poly}
@@ -44,3 +45,9 @@ module _ (p : ℕ) (hs : List Poly) where
     pub lists : List (List Poly)
     pub before : LeaveNothing (take place fs) lists
     pub stops : PartStops law place (get_or fs place []) e
+
+-- the rest of a fault stands in v variables
+abbrev pub FaultIn : ℕ → ℕ → LawStop → Type 0
+FaultIn p v (Fault t) = IsNormal (residue_ops p) (λ c. nat_lt c p) v t.rest
+FaultIn p v (Degree x y) = ⊤
+FaultIn p v NoMemory = ⊤

@@ -13,7 +13,7 @@ ghost use Rattle.rinv_laws.specs.Points.{ArePolynomials};
 ghost use Rattle.rinv_laws.specs.Group.{IsGroupBasis};
 ghost use Rattle.rinv_laws.specs.Copied.{AreQuotients, AreAllQuotients};
 ghost use Rattle.rinv_laws.specs.Faults.{TestMeets, HoldBefore, LawStopsSo};
-ghost use Rattle.rinv_laws.specs.Tested.{LeavesNothing, LeaveNothing, PartStops, PartsStop};
+ghost use Rattle.rinv_laws.specs.Tested.{LeavesNothing, LeaveNothing, PartStops, PartsStop, FaultIn};
 
 use crate::copied::{CopiedBasis, copied_basis};
 use crate::group::GroupBasis;
@@ -70,6 +70,7 @@ fn test_part(
     requires divisors { AreDivisors (residue_ops ring.now.coeffs) (λ c. nat_lt c ring.now.coeffs) ring.now.vars grevlex basis.now.polys.items basis.now.divisors.list.items }
     ensures normal { IfOk result (λ qs. ArePolynomials ring.now.coeffs ring.now.vars qs.items) }
     ensures nothing { IfOk result (λ qs. LeavesNothing ring.now.coeffs basis.now.polys.items part.now qs.items) }
+    ensures fault { IfErr result (FaultIn ring.now.coeffs ring.now.vars) }
     ensures stop { IfErr result (PartStops ring.now.coeffs basis.now.polys.items (law_of law) place part.now) }
 {
     let division = divide_wholly(ring, alloc, part, &basis.polys, &basis.divisors, &Grevlex)?;
@@ -98,6 +99,7 @@ fn test_parts(
     requires divisors { AreDivisors (residue_ops ring.now.coeffs) (λ c. nat_lt c ring.now.coeffs) ring.now.vars grevlex basis.now.polys.items basis.now.divisors.list.items }
     ensures normal { IfOk result (λ lists. All (ArePolynomials ring.now.coeffs ring.now.vars) (map (λ qs. qs.items) lists.items)) }
     ensures nothing { IfOk result (λ lists. LeaveNothing ring.now.coeffs basis.now.polys.items parts.now (map (λ qs. qs.items) lists.items)) }
+    ensures fault { IfErr result (FaultIn ring.now.coeffs ring.now.vars) }
     ensures stop { IfErr result (PartsStop ring.now.coeffs basis.now.polys.items (law_of law) parts.now) }
 {
     let mut lists = Vec::new(alloc);

@@ -1,4 +1,4 @@
-use Rattle.std.proofs.Common.{◌≡◌, ◌+◌, ◌*◌, ◌++◌, ◌∙◌, ℕ, List, [], map, get_or, subst, sym, nat_lt, arith}
+use Rattle.std.proofs.Common.{◌*◌, ◌++◌, List, [], map, get_or, subst, sym, nat_lt, arith}
 use Rattle.std.proofs.lemmas.List.Elements.{All-append}
 use Rattle.std.proofs.lemmas.Nat.{row_fits}
 use Rattle.rinv_algebra.specs.Residue.{residue_ops}

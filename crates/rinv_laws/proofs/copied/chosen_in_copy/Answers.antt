@@ -1,4 +1,4 @@
-use Rattle.std.proofs.Common.{◌≡◌, ◌*◌, ◌∙◌, List, [], map, get_or, subst, ap, nat_lt, arith}
+use Rattle.std.proofs.Common.{◌*◌, ◌∙◌, List, [], map, get_or, subst, ap, nat_lt}
 use Rattle.std.proofs.lemmas.List.{take_all, get_or_default}
 use Rattle.std.proofs.lemmas.List.Elements.{All-push}
 use Rattle.rinv_algebra.specs.Residue.{residue_ops}

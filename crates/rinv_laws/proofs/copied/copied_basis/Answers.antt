@@ -1,6 +1,4 @@
-use Rattle.std.proofs.Common.{◌≡◌, false, length, subst, All}
 use Rattle.rinv_algebra.specs.Residue.{residue_ops}
-use Rattle.rinv_algebra.specs.Polynomial.{is_zero}
 use Rattle.rinv_algebra.proofs.ResidueLaws.{residue_laws}
 use Rattle.rinv_laws.proofs.CopiedFacts.{copied-nonzero}
 use Rattle.rinv_laws.proofs.copied.copied_basis.Goals as goal

@@ -1,11 +1,11 @@
-use Rattle.std.proofs.Common.{◌≡◌, ◌+◌, ◌*◌, ◌∙◌, ℕ, List, map, length, sym, ap, arith, nat_lt, [], get_or}
+use Rattle.std.proofs.Common.{◌≡◌, ◌∙◌, List, map, length, sym, ap, arith, [], get_or}
 use Rattle.std.proofs.lemmas.Result.{err_from_is_err_and}
 use Rattle.rinv_algebra.specs.Residue.{residue_ops}
 use Rattle.rinv_groebner.specs.Copies.{copies as copied}
 use Rattle.rinv_groebner.proofs.UniqueSteps.{same-length}
 use Rattle.rinv_text.specs.Told.{Told}
 use Rattle.rinv_defs.specs.System.{Poly}
-use Rattle.rinv_defs.specs.Laws.{Law, parts}
+use Rattle.rinv_defs.specs.Laws.{parts}
 use Rattle.rinv_laws.specs.declared.group.GroupBasis.{GroupBasis}
 use Rattle.rinv_laws.specs.LawNames.{law_of, variables_of}
 use Rattle.rinv_laws.proofs.Computed.{over}
@@ -92,7 +92,7 @@ returns-clause-stop c =
     answer-stops s found c.args.group.now.reduced.items c.requires.system c.requires.group law c.in_ok-ring.ring.coeffs c.in_ok-ring.ring.vars c.deref-2.result.now c.in_ok-ring.parts.items hs
     (copied c.copies-copies.result c.new-from.result.vars (map (λ k. get_or c.deref.result.now k []) c.args.places.now)) c.in_ok-ring.ensures.field c.in_ok-ring.ensures.count c.deref-2.ensures.value c.in_ok-ring.ensures.value
     (copies-are s found law c.copies-copies.result c.new-from.result.vars c.deref.result.now c.args.places.now c.copies-copies.ensures count polys c.requires.kept) c.in_ok-basis.ensures.value c.in_ok-basis.ensures.normal
-    c.test_parts.result c.requires.before c.test_parts.ensures.stop
+    c.test_parts.result c.requires.before c.test_parts.ensures.stop c.test_parts.ensures.fault
 
 pub returns-in_err-ring-clause-stop : goal.returns-in_err-ring-clause-stop
 returns-in_err-ring-clause-stop c =

@@ -1,4 +1,4 @@
-use Rattle.std.proofs.Common.{◌≡◌, ◌∙◌, List, [], ◌∷◌, ◌++◌, map, take, get_or, length, subst, sym, ap, arith}
+use Rattle.std.proofs.Common.{List, [], ◌∷◌, map}
 use Rattle.std.proofs.lemmas.List.{map-append}
 use Rattle.std.proofs.lemmas.Result.{err_from_is_err_and}
 use Rattle.std.proofs.lemmas.List.Elements.{All-push}
@@ -6,7 +6,7 @@ use Rattle.rinv_defs.specs.System.{Poly}
 use Rattle.rinv_laws.specs.LawNames.{law_of}
 use Rattle.rinv_laws.specs.Points.{ArePolynomials}
 use Rattle.rinv_laws.specs.declared.stop.LawStop.TheVariants.{NoMemory}
-use Rattle.rinv_laws.proofs.PartsInTurn.{nothing-none, nothing-more, stops-at}
+use Rattle.rinv_laws.proofs.PartsInTurn.{nothing-more, stops-at}
 use Rattle.rinv_laws.proofs.testing.test_parts.Goals as goal
 
 pub parts-preserved : goal.parts-preserved
