@@ -58,7 +58,7 @@ copies-meet c vs (w ∷ ws) plain apart =
     ap₂ (λ a b. a || b) (copies-out w vs c p.0 q.0) (copies-meet c vs ws p.1 q.1)
 
 copies-number : (c : ℕ) (vs : List (List ℕ)) → length (copies c vs) ≡ c * length vs
-copies-number zero vs = refl
+copies-number zero vs = let e : 0 ≡ 0 * length vs = omega arith in e
 copies-number (suc n) vs =
     let front = copies-number n vs in
     let last = length-map vs (λ w. w ++ replicate n 39) in

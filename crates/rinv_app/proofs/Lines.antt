@@ -1,10 +1,16 @@
 -- The lines of fractions, one more at a time.
 --   fraction_lines-take_more    the lines of one fraction more
 --   append_assoc-5              five pieces in a row, as a format writes them
-use Rattle.std.proofs.Common.{◌≡◌, ℕ, suc, ◌+◌, ◌<◌, List, [], ◌∷◌, ◌++◌, length, get_or, take, refl, sym, ap, ◌∙◌, arith, append_assoc, append-nil, length-take}
+--   fault-line                  the line of a false part of a law, piece by piece
+use Rattle.std.proofs.Common.{◌≡◌, ℕ, suc, ◌+◌, ◌<◌, List, [], ◌∷◌, ◌++◌, length, get_or, take, refl, sym, ap, ap₂, ◌∙◌, arith, append_assoc, append-nil, length-take}
 use Rattle.std.proofs.lemmas.List.{take_more}
+use Rattle.std.specs.Prelude.{codes, decimal}
+use Rattle.rinv_defs.specs.System.{System, Poly}
+use Rattle.rinv_defs.specs.Laws.{Law}
 use Rattle.rinv_defs.specs.Invariant.{Fraction}
-use Rattle.rinv_defs.specs.Text.{fraction_lines}
+use Rattle.rinv_defs.specs.Text.{fraction_lines, poly_text}
+use Rattle.rinv_laws.specs.LawNames.{law_word}
+use Rattle.rinv_app.specs.LawLines.{law_names, fault_text}
 use Rattle.rinv_app.specs.Pieces.{fraction_line}
 
 -- five pieces in a row, as a format writes them
@@ -27,3 +33,11 @@ fraction_lines-take_more p names fs k d h =
 pub fraction_lines-nil : (p : ℕ) (names : List (List ℕ)) (k : ℕ) → fraction_lines p names k [] ≡ []
 unfolding fraction_lines
 fraction_lines-nil p names k = refl
+
+-- the line of a false part of a law, piece by piece
+pub fault-line : (s : System) (law : Law) (k : ℕ) (f : Poly) (names : List (List ℕ)) (head with_rest line : List ℕ) → names ≡ law_names s law
+    → head ≡ codes "denied law " ++ (law_word law ++ (codes " part " ++ (decimal (k + 1) ++ codes " rest "))) → with_rest ≡ head ++ poly_text s.p names f → line ≡ with_rest ++ codes "\n" → line ≡ fault_text s law k f
+unfolding fault_text
+fault-line s law k f names head with_rest line are is more last =
+    last ∙ ap (λ (w : List ℕ). w ++ codes "\n")
+    (more ∙ ap₂ (λ (w : List ℕ) (n : List (List ℕ)). w ++ poly_text s.p n f) (is ∙ sym (append_assoc-5 (codes "denied law ") (law_word law) (codes " part ") (decimal (k + 1)) (codes " rest "))) are)

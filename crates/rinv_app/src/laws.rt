@@ -26,7 +26,8 @@ pub(crate) fn laws_of(alloc: Global, bytes: &[u8]) -> Result<(Vec<u8>, Status), 
         }
         Err(SystemStop::NoMemory) => return Err(NoMemory),
     };
-    tested(alloc, &system)
+    let answer = tested(alloc, &system)?;
+    Ok(answer)
 }
 
 // What the test of the system's laws answers.
