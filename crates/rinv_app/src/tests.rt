@@ -259,17 +259,38 @@ const LAWS: [(&str, &str, &str, &str, Status); 12] = [
         "incomplete group steps 0\n",
         Status::Incomplete,
     ),
-    (ROTATIONS, "101", "100", "refused line 1 Field not listed\n", Status::Refused),
-    (ROTATIONS, "unit 1, 0", "", "refused line 8 Missing\n", Status::Refused),
-    (ROTATIONS, "inverse a, -b", "inverse a, -", "refused line 7 Expression\n", Status::Refused),
-    (ROTATIONS, "space x, y", "space x, a", "refused line 3 Name\n", Status::Refused),
+    (
+        ROTATIONS,
+        "101",
+        "100",
+        "refused line 1 Field not listed\n",
+        Status::Refused,
+    ),
+    (
+        ROTATIONS,
+        "unit 1, 0",
+        "",
+        "refused line 8 Missing\n",
+        Status::Refused,
+    ),
+    (
+        ROTATIONS,
+        "inverse a, -b",
+        "inverse a, -",
+        "refused line 7 Expression\n",
+        Status::Refused,
+    ),
+    (
+        ROTATIONS,
+        "space x, y",
+        "space x, a",
+        "refused line 3 Name\n",
+        Status::Refused,
+    ),
 ];
 
 // Whether `laws` answers so to the text with a part of it changed.
-fn answers(
-    alloc: Global,
-    row: &(&str, &str, &str, &str, Status),
-) -> Result<bool, NoMemory> {
+fn answers(alloc: Global, row: &(&str, &str, &str, &str, Status)) -> Result<bool, NoMemory> {
     let (text, old, new, answer, status) = row;
     let input = match text.split_once(old) {
         Some((before, after)) => format!(in alloc; "{before}{new}{after}")?,
