@@ -270,7 +270,7 @@ const LAWS: [(&str, &str, &str, &str, Status); 12] = [
         ROTATIONS,
         "unit 1, 0",
         "",
-        "refused line 8 Missing\n",
+        "refused line 9 Missing\n",
         Status::Refused,
     ),
     (
