@@ -35,7 +35,7 @@ rank-low L6 = omega arith
 rank-low A1 = omega arith
 rank-low A2 = omega arith
 
-same-rank : (a b : Law) → rank a ≡ rank b → a ≡ b
+pub same-rank : (a b : Law) → rank a ≡ rank b → a ≡ b
 same-rank a b e = sym (law-at a) ∙ ap (λ (k : ℕ). get_or all_laws k L1) e ∙ law-at b
 
 -- the names in their order

@@ -13,3 +13,4 @@ pub mod PartCounts
 pub mod PartsInTurn
 pub mod TestedLaws
 pub mod LawsInTurn
+pub mod FirstFaults

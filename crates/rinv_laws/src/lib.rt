@@ -3,6 +3,7 @@
 
 mod cofactors;
 mod copied;
+pub mod faults;
 mod group;
 mod law;
 mod parts;
