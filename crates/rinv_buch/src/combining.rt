@@ -207,10 +207,9 @@ fn degree_beyond(mono: &Mono, other: &Mono) -> u32
     ensures { result ≡ total_degree (quotient (lcm mono.now other.now) mono.now) }
 {
     let _limit = other.degree();
-    let (own, others) = (mono.exponents(), other.exponents());
     let mut degree = 0;
-    'variables: for k in 0..own.len() {
-        degree += others[k].saturating_sub(own[k]);
+    'variables: for k in 0..mono.vars() {
+        degree += other.exponent(k).saturating_sub(mono.exponent(k));
     }
     degree
 }

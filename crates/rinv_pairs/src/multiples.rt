@@ -1,6 +1,6 @@
 //! Degrees of least common multiples that are not made.
 
-ghost use Rattle.std.specs.Prelude.{◌≡◌, ◌≤◌, ◌<◌, length, sum, IfErr, OnOk, slice_index};
+ghost use Rattle.std.specs.Prelude.{◌≡◌, ◌≤◌, ◌<◌, length, sum, IfErr, OnOk};
 ghost use Rattle.rinv_algebra.specs.Monomial.{lcm, total_degree, max_degree};
 ghost use Rattle.rinv_pairs.specs.High.{AreLow, IsFirstHigh};
 
@@ -30,28 +30,18 @@ fn multiple_degree(a: &Mono, b: &Mono) -> u32
     ensures { result ≡ total_degree (lcm a.now b.now) }
 {
     let _degrees = (a.degree(), b.degree());
-    sum_of_greater(a.exponents(), b.exponents())
+    sum_of_greater(a, b)
 }
 
 // The sum of the greater of each two.
-fn sum_of_greater(left: &[u32], right: &[u32]) -> u32
+fn sum_of_greater(left: &Mono, right: &Mono) -> u32
     requires left_low { sum left.now ≤ max_degree }
     requires right_low { sum right.now ≤ max_degree }
     ensures { result ≡ sum (lcm left.now right.now) }
 {
     let mut degree = 0;
-    for k in 0..left.len().max(right.len()) {
-        degree += exponent_at(left, k).max(exponent_at(right, k));
+    for k in 0..left.vars().max(right.vars()) {
+        degree += left.exponent_or_zero(k).max(right.exponent_or_zero(k));
     }
     degree
-}
-
-// The exponent at a place, which is 0 past the end.
-pub(crate) fn exponent_at(exponents: &[u32], k: usize) -> u32
-    ensures { result ≡ slice_index exponents.now k }
-{
-    match exponents.get(k) {
-        Some(exponent) => *exponent,
-        None => 0,
-    }
 }

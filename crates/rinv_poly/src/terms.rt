@@ -8,7 +8,7 @@ ghost use Rattle.rinv_algebra.specs.Normal.{IsNormal};
 ghost use Rattle.rinv_ring.specs.Operation.{multiplies};
 ghost use Rattle.rinv_ring.specs.Fault.{DegreesMeet};
 ghost use Rattle.rinv_poly.specs.Terms.{IsTerm, IsPushed};
-ghost use Rattle.rinv_poly.specs.Faults.{CoefficientsMeet};
+ghost use Rattle.rinv_poly.specs.Faults.{MultipleMeets};
 
 use crate::polynomial::push_term;
 use rinv_mono::Mono;
@@ -45,7 +45,7 @@ pub fn scaled<R: Ring>(
     requires terms { IsNormal (R.ops coeffs.now) (R.is_element coeffs.now) vars terms.now }
     ensures normal { IfOk result (λ v. IsNormal (R.ops coeffs.now) (R.is_element coeffs.now) vars v.items) }
     ensures value { IfOk result (λ v. IsSame (poly_ops (R.ops coeffs.now)) v.items (scale (R.ops coeffs.now) c.now terms.now)) }
-    ensures degree { IfErr result (DegreesMeet (CoefficientsMeet (R.too_high coeffs.now) multiplies)) }
+    ensures degree { IfErr result (DegreesMeet (MultipleMeets (R.ops coeffs.now) (R.is_element coeffs.now) (R.too_high coeffs.now) c.now terms.now)) }
 {
     let mut out = Vec::with_capacity(alloc, terms.len())?;
     for (mono, d) in terms {
@@ -66,7 +66,7 @@ pub fn push_multiple<R: Ring>(
     requires left { IsTrue (R.is_element coeffs.now c.now) }
     requires right { IsTrue (R.is_element coeffs.now d.now) }
     ensures value { OnOk result (IsPushed (R.ops coeffs.now) (R.is_element coeffs.now) out.old.items out.new.items mono ((R.ops coeffs.now).mul c.now d.now)) }
-    ensures degree { IfErr result (DegreesMeet (CoefficientsMeet (R.too_high coeffs.now) multiplies)) }
+    ensures degree { IfErr result (DegreesMeet (R.too_high coeffs.now multiplies c.now d.now)) }
 {
     let multiple = coeffs.mul(alloc, c, d)?;
     push_term(coeffs, mono, multiple, out)?;
@@ -99,7 +99,8 @@ fn mono_past_zeros(alloc: Global, zeros: u32, mono: &Mono) -> Result<Mono, NoMem
     ensures { IfOk result (λ m. m ≡ replicate zeros 0 ++ mono.now) }
 {
     let _degree = mono.degree();
-    past_zeros(alloc, zeros, mono.exponents())
+    let exponents = mono.to_exponents(alloc)?;
+    past_zeros(alloc, zeros, &exponents)
 }
 
 /// The monomial with so many variables of exponent 0 before those of the list.

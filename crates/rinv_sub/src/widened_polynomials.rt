@@ -1,32 +1,28 @@
 //! Polynomials in further variables, which they do not have.
 
-ghost use Rattle.std.specs.Prelude.{◌≡◌, ◌<◌, ◌≤◌, ◌+◌, ◌^◌, ◌++◌, ℕ, List, length, replicate, All, IsTrue, IfOk, IfErr};
+ghost use Rattle.std.specs.Prelude.{◌≡◌, ◌<◌, ◌≤◌, ◌+◌, ◌^◌, ◌++◌, ℕ, List, length, replicate, All, IsTrue, IfOk};
 ghost use Rattle.rinv_algebra.specs.Ring.{IsSame};
 ghost use Rattle.rinv_algebra.specs.Monomial.{total_degree, max_degree};
 ghost use Rattle.rinv_algebra.specs.Polynomial.{poly_ops};
 ghost use Rattle.rinv_algebra.specs.Normal.{IsNormal};
-ghost use Rattle.rinv_ring.specs.Operation.{adds};
-ghost use Rattle.rinv_ring.specs.Fault.{DegreesMeet};
-ghost use Rattle.rinv_poly.specs.Faults.{CoefficientsMeet};
 
 use rinv_mono::Mono;
 use rinv_poly::{Poly, PolyRing};
-use rinv_ring::{NoMemory, Ring, RingFault};
+use rinv_ring::{NoMemory, Ring};
 use std::alloc::Global;
 
-/// The polynomial in the ring `to`, which has its variables and then others.
+/// The polynomial in the ring `to`, which has its variables and then others. It has the same degree, so Degree never comes.
 pub fn widened<R: Ring>(
     from: &PolyRing<R>,
     alloc: Global,
     f: &Poly<R>,
     to: &PolyRing<R>,
-) -> Result<Poly<R>, RingFault>
+) -> Result<Poly<R>, NoMemory>
     requires coeffs { from.now.coeffs ≡ to.now.coeffs }
     requires more { from.now.vars ≤ to.now.vars }
     requires polynomial { IsNormal (R.ops from.now.coeffs) (R.is_element from.now.coeffs) from.now.vars f.now }
     ensures element { IfOk result (λ r. IsNormal (R.ops to.now.coeffs) (R.is_element to.now.coeffs) to.now.vars r) }
     ensures value { IfOk result (λ r. IsSame (poly_ops (R.ops to.now.coeffs)) r f.now) }
-    ensures degree { IfErr result (DegreesMeet (CoefficientsMeet (R.too_high to.now.coeffs) adds)) }
 {
     let zeros = to.vars() - from.vars();
     let mut terms = Vec::new(alloc);
@@ -35,7 +31,8 @@ pub fn widened<R: Ring>(
         let coefficient = to.coeffs().copy(alloc, from.coeff(f, k))?;
         terms.push((mono, coefficient))?;
     }
-    to.from_terms(alloc, terms)
+    let wide = to.from_distinct(terms)?;
+    Ok(wide)
 }
 
 // The monomial with so many further variables of exponent 0.
@@ -44,7 +41,7 @@ fn followed_by_zeros(alloc: Global, mono: &Mono, zeros: u32) -> Result<Mono, NoM
     ensures { IfOk result (λ m. m ≡ mono.now ++ replicate zeros 0) }
 {
     let _degree = mono.degree();
-    let mut exponents = mono.exponents().to_vec(alloc)?;
+    let mut exponents = mono.to_exponents(alloc)?;
     let others = vec![in alloc; 0; zeros as usize]?;
     exponents.extend_from_slice(&others)?;
     match Mono::from_exponents(alloc, &exponents)? {

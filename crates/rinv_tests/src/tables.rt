@@ -59,11 +59,16 @@ pub(crate) fn is_list(ring: &PolyRing<Gf>, f: &KPoly, list: &[Term]) -> bool {
     }
     for k in 0..ring.len(f) {
         let (c, a, b) = list[k as usize];
-        if ring.mono(f, k).exponents() != [a, b].as_slice() || *ring.coeff(f, k) != c {
+        if !has_exponents(ring.mono(f, k), a, b) || *ring.coeff(f, k) != c {
             return false;
         }
     }
     true
+}
+
+// Whether these are its exponents.
+fn has_exponents(mono: &Mono, a: u32, b: u32) -> bool {
+    mono.vars() == 2 && mono.exponent_or_zero(0) == a && mono.exponent_or_zero(1) == b
 }
 
 // Whether these are the terms of the polynomials, one after the other.

@@ -5,8 +5,8 @@ use Rattle.rinv_algebra.specs.Monomial.{divides, lcm}
 use Rattle.rinv_pairs.proofs.Places.{divides-place}
 use Rattle.rinv_pairs.proofs.criteria.divides_multiple.Goals as goal
 
-pub returns-then-by-k : goal.returns-then-by-k
-returns-then-by-k c = let here = divides-place c.args.by.now c.args.left.now c.args.right.now c.loop-k.k in grind (arith, nat_tests, here)
+pub returns-then-exponent-max : goal.returns-then-exponent-max
+returns-then-exponent-max c = let here = divides-place c.args.by.now c.args.left.now c.args.right.now c.loop-k.k in grind (arith, nat_tests, here)
 
 pub loop-k-preserved : goal.loop-k-preserved
 loop-k-preserved c = let here = divides-place c.args.by.now c.args.left.now c.args.right.now c.loop-k.k in grind (arith, nat_tests, here)

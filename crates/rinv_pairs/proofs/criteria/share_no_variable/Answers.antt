@@ -5,8 +5,8 @@ use Rattle.rinv_algebra.specs.Monomial.{coprime}
 use Rattle.rinv_pairs.proofs.Places.{coprime-place}
 use Rattle.rinv_pairs.proofs.criteria.share_no_variable.Goals as goal
 
-pub returns-then-exponent_at-gt0 : goal.returns-then-exponent_at-gt0
-returns-then-exponent_at-gt0 c = let here = coprime-place c.args.left.now c.args.right.now c.loop-k.k in grind (arith, nat_tests, here)
+pub returns-then-exponent_or_zero-gt0 : goal.returns-then-exponent_or_zero-gt0
+returns-then-exponent_or_zero-gt0 c = let here = coprime-place c.args.left.now c.args.right.now c.loop-k.k in grind (arith, nat_tests, here)
 
 pub loop-k-preserved : goal.loop-k-preserved
 loop-k-preserved c = let here = coprime-place c.args.left.now c.args.right.now c.loop-k.k in grind (arith, nat_tests, here)
