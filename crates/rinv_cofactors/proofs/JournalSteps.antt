@@ -5,7 +5,7 @@
 --   IsCombined           the cofactors after the first k entries
 --   combined-begin, combined-stay, combined-add, combined-end    the beginning, an entry, and the end
 --   combining-meets      degrees that an entry meets
-use Rattle.std.proofs.Common.{◌≡◌, ℕ, ◌+◌, ◌<◌, ◌≤◌, true, false, List, [], ◌∷◌, ◌++◌, length, length-append, append-nil, append_assoc, get_or, take, drop, All, refl, sym, ◌∙◌, ap, subst, subst₂, arith, true≢false}
+use Rattle.std.proofs.Common.{◌≡◌, ℕ, ◌+◌, ◌<◌, ◌≤◌, true, false, List, [], ◌∷◌, ◌++◌, Bool, length, length-append, append-nil, append_assoc, get_or, take, drop, All, refl, sym, ◌∙◌, ap, subst, subst₂, arith, true≢false}
 use Rattle.std.specs.Prelude.{IsFalse, Some, None}
 use Rattle.std.specs.List.{AllZip}
 use Rattle.std.specs.declared.cmp.Ordering.{Ordering}
@@ -13,6 +13,7 @@ use Rattle.std.proofs.lemmas.List.{get_or-map, length-map, take_more, take_all, 
 use Rattle.std.proofs.lemmas.List.Elements.{length_all_zip, All-from_get_or}
 use Rattle.rinv_algebra.specs.Ring.{RingOps, RingLaws, FieldLaws, IsSame}
 use Rattle.rinv_algebra.specs.Polynomial.{Polynomial, poly_ops, is_zero}
+use Rattle.rinv_algebra.specs.Normal.{IsNormal}
 use Rattle.rinv_algebra.proofs.PolynomialLaws.{poly_laws}
 use Rattle.rinv_groebner.specs.Orders.{OrdersMonomials}
 use Rattle.rinv_groebner.specs.Division.{AreSame, Step, Steps, IsDivision}
@@ -24,9 +25,6 @@ use Rattle.rinv_groebner.proofs.ListElements.{AllFirst}
 use Rattle.rinv_groebner.proofs.PairsOfLists.{s_polynomial-first}
 use Rattle.rinv_groebner.proofs.UniqueSteps.{division_unique}
 use Rattle.rinv_ring.specs.Operation.{RingOp}
-use Rattle.rinv_ring.specs.Fault.{DegreesMeet}
-use Rattle.rinv_ring.specs.declared.fault.RingFault.{RingFault}
-use Rattle.rinv_poly.proofs.Meets.{meet-weaker}
 use Rattle.rinv_buch.specs.declared.kinds.Entry.{Entry as StoredEntry}
 use Rattle.rinv_buch.specs.Kinds.{entry_of, journal_of}
 use Rattle.rinv_cofactors.specs.Combining.{AreCofactors, Combines, CombiningMeets, RestMeets, adds, units}
@@ -188,9 +186,9 @@ module _ {E : Type 0} (o : RingOps E) (cmp : List ℕ → List ℕ → Ordering)
         next-list = ap (take (length lists + 1)) front.1 ∙ take-append-le (length lists + 1) (list ++ more.rest ∷ []) front.0 (omega (arith, longer)) ∙ take_all (length lists + 1) (list ++ more.rest ∷ []) (omega (arith, longer))
 
         -- what the entry meets
-        pub combining-meets : (too_high : RingOp → E → E → ℕ → ℕ → Type 0) (fault : RingFault) → DegreesMeet (RestMeets o cmp too_high list lists e.first e.second) fault → DegreesMeet (CombiningMeets o cmp too_high given journal polys) fault
-        combining-meets too_high fault m = meet-weaker (RestMeets o cmp too_high list lists e.first e.second) (CombiningMeets o cmp too_high given journal polys)
-            (λ x y meets. record {
+        pub combining-meets : (is_element : E → Bool) (too_high : RingOp → E → E → ℕ → ℕ → Type 0) (v : ℕ) → All (All (IsNormal o is_element v)) lists → (x y : ℕ) → RestMeets o is_element too_high v cmp list lists e.first e.second x y → CombiningMeets o is_element too_high v cmp given journal polys x y
+        combining-meets is_element too_high v stored x y meets =
+            record {
               before = take k journal;
               entry = e;
               after = drop (k + 1) journal;
@@ -202,8 +200,9 @@ module _ {E : Type 0} (o : RingOps E) (cmp : List ℕ → List ℕ → Ordering)
               is_entry = subst (IsEntry o cmp (take k journal) list e) more.whole entered.1;
               lists = lists;
               combines = c.combines;
+              stored = stored;
               meets = meets;
-            }) fault m
+            }
 
         module _ (l : RingLaws o) (field : FieldLaws o) (v : ℕ) (order : OrdersMonomials cmp v) (first : AllFirst o l v given) where
           facts : ListFacts o l field cmp v order given first list

@@ -1,19 +1,24 @@
 -- The multiplier of a polynomial in the S-polynomial of two, as a polynomial, and its degree.
-use Rattle.std.proofs.Common.{◌≡◌, ℕ, ◌+◌, ◌-◌, ◌<◌, ◌≤◌, List, [], ◌∷◌, length, get_or, drop, max, refl, sym, ◌∙◌, ap, ap₂, subst, arith}
+use Rattle.std.proofs.Common.{◌≡◌, ℕ, Bool, true, false, IsTrue, ◌+◌, ◌-◌, ◌<◌, ◌≤◌, inl, List, [], ◌∷◌, length, get_or, drop, max, refl, sym, ◌∙◌, ap, ap₂, subst, arith}
 use Rattle.std.specs.Prelude.{IsFalse}
 use Rattle.std.specs.declared.cmp.Ordering.{Ordering}
 use Rattle.std.proofs.lemmas.List.{drop_more, drop_all}
+use Rattle.std.proofs.lemmas.List.Elements.{All-nil, All-cons}
 use Rattle.std.proofs.lemmas.List.Sums.{sum_by-cons}
 use Rattle.rinv_algebra.specs.Ring.{RingOps, RingLaws, IsSame}
 use Rattle.rinv_algebra.specs.Monomial.{quotient, lcm, total_degree, max_degree}
 use Rattle.rinv_algebra.specs.MonomialOrder.{MonoOrderLaws}
-use Rattle.rinv_algebra.specs.Polynomial.{Polynomial, poly_ops, is_zero}
+use Rattle.rinv_algebra.specs.Polynomial.{Polynomial, poly_ops, is_zero, has_monomial}
+use Rattle.rinv_algebra.specs.Normal.{IsNormal}
 use Rattle.rinv_algebra.specs.Leading.{leading_monomial, leading_coefficient, multiplier}
 use Rattle.rinv_groebner.proofs.LeadingMonomials.{leading_monomial-leads}
 use Rattle.rinv_groebner.proofs.MonomialLists.{lcm_left}
-use Rattle.rinv_mono.proofs.Pairwise.{length-lcm, sum-quotient}
-use Rattle.rinv_poly.proofs.Gather.{same-then, term-same}
-use Rattle.rinv_div.specs.Stops.{ProductMeets}
+use Rattle.rinv_mono.proofs.Pairwise.{length-lcm, length-quotient, sum-quotient}
+use Rattle.rinv_ring.specs.Operation.{RingOp}
+use Rattle.rinv_poly.specs.Combined.{TermMeets}
+use Rattle.rinv_poly.proofs.Forms.{IsOrdered, IsNormalTerm, normal-from_ordered}
+use Rattle.rinv_poly.proofs.Gather.{same-refl, same-then, term-same}
+use Rattle.rinv_poly.proofs.NormalFacts.{has-term}
 
 -- the degree of the least common multiple by the first, from a place on
 abbrev pub beyond : List ℕ → List ℕ → ℕ
@@ -56,6 +61,21 @@ module _ (a b own others : List ℕ) (is_own : own ≡ a) (is_others : others �
   pub beyond-bound : degree + here ≤ total_degree b
   beyond-bound = omega (arith, beyond-next, beyond-le a b)
 
+module _ {E : Type 0} (o : RingOps E) (is_element : E → Bool) (v : ℕ) (m : List ℕ) (c : E) (element : IsTrue (is_element c)) (some : o.same c o.zero ≡ false) (vars : length m ≡ v) (low : total_degree m ≤ max_degree) where
+  -- a polynomial of one term is in normal form
+  one-ordered : IsOrdered o is_element v ((m, c) ∷ [])
+  one-ordered = record {
+    terms = All-cons (IsNormalTerm o is_element v) (m, c) [] (record { coefficient = element; nonzero = some; vars = vars; low = low }) (All-nil (IsNormalTerm o is_element v));
+    descending = λ i j d h k. absurd (omega (arith, h, k));
+  }
+
+  one-normal : IsNormal o is_element v ((m, c) ∷ [])
+  one-normal = normal-from_ordered o is_element v ((m, c) ∷ []) one-ordered
+
+  -- and has its monomial
+  one-has : RingLaws o → has_monomial o ((m, c) ∷ []) m ≡ true
+  one-has l = has-term o l is_element v ((m, c) ∷ []) one-ordered (m, c) (0, omega arith, refl)
+
 module _ {E : Type 0} (o : RingOps E) (l : RingLaws o) (cmp : List ℕ → List ℕ → Ordering) (f g : Polynomial E) (a b : List ℕ) (is_a : a ≡ leading_monomial o cmp f) (is_b : b ≡ leading_monomial o cmp g) where
   -- the multiplier, by its monomial and its coefficient
   pub multiplier-value : (m : List ℕ) (c : E) (u : Polynomial E) → m ≡ quotient (lcm a b) a → IsSame o c (leading_coefficient o cmp g) → IsSame (poly_ops o) u ((m, c) ∷ []) → IsSame (poly_ops o) u (multiplier o cmp f g ∷ [])
@@ -64,9 +84,21 @@ module _ {E : Type 0} (o : RingOps E) (l : RingLaws o) (cmp : List ℕ → List 
       subst (λ (m : List ℕ). IsSame (poly_ops o) u ((m, leading_coefficient o cmp g) ∷ [])) mono (same-then o l u ((m, c) ∷ []) ((m, leading_coefficient o cmp g) ∷ []) value (term-same o l m c (leading_coefficient o cmp g) same))
 
   -- where the least common multiple is too high, the product with the polynomial is
-  pub multiplier-meets : MonoOrderLaws cmp → length a ≡ length b → IsFalse (is_zero o f) → (n x y : ℕ) → n ≡ total_degree (lcm a b) → max_degree < n → x ≡ beyond a b → y ≡ total_degree a → ProductMeets o (multiplier o cmp f g).0 f x y
-  multiplier-meets laws vars nonzero n x y is_n over is_x is_y = record {
-    left = ap₂ beyond (sym is_a) (sym is_b) ∙ sym is_x;
-    right = record { monomial = leading_monomial o cmp f; has = (leading_monomial-leads o l cmp laws f nonzero).has; degree = ap total_degree (sym is_a) ∙ sym is_y };
-    over = let e = sum-quotient (lcm a b) a (length-lcm a b vars) (lcm_left a b) in omega (arith, e, is_n, over, is_x, is_y);
-  }
+  pub multiplier-meets : MonoOrderLaws cmp → (is_element : E → Bool) (high : RingOp → E → E → ℕ → ℕ → Type 0) (v : ℕ) (c : E) → length a ≡ v → length b ≡ v → IsTrue (is_element c) → o.same c o.zero ≡ false → IsSame o c (leading_coefficient o cmp g) → IsFalse (is_zero o f)
+      → (n x y : ℕ) → n ≡ total_degree (lcm a b) → max_degree < n → x ≡ beyond a b → x ≤ max_degree → y ≡ total_degree a → TermMeets o is_element high v (multiplier o cmp f g) f x y
+  multiplier-meets laws is_element high v c in_a in_b element some same nonzero n x y is_n over is_x low is_y =
+      let m = quotient (lcm a b) a in
+      let vars : length a ≡ length b = in_a ∙ sym in_b in
+      let t : Polynomial E = (m, c) ∷ [] in
+      let bound = beyond-le a b in (
+        t,
+        record {
+          normal = one-normal o is_element v m c element some len bound;
+          value = multiplier-value m c t refl same (same-refl o l t);
+        },
+        inl (record {
+          left = record { monomial = m; has = one-has o is_element v m c element some len bound l; degree = sym is_x };
+          right = record { monomial = leading_monomial o cmp f; has = (leading_monomial-leads o l cmp laws f nonzero).has; degree = ap total_degree (sym is_a) ∙ sym is_y };
+          over = let e = sum-quotient (lcm a b) a (length-lcm a b vars) (lcm_left a b) in omega (arith, e, is_n, over, is_x, is_y);
+        }),
+      )

@@ -55,7 +55,8 @@ pub fn multiplier_of<F: Field, O: MonoOrder>(
 // The degree of the least common multiple of two monomials, divided by the first.
 fn degree_beyond(mono: &Mono, other: &Mono) -> u32
     requires { length mono.now ≡ length other.now }
-    ensures { result ≡ total_degree (quotient (lcm mono.now other.now) mono.now) }
+    ensures degree { result ≡ total_degree (quotient (lcm mono.now other.now) mono.now) }
+    ensures low { result ≤ max_degree }
 {
     let _limit = other.degree();
     let mut degree = 0;

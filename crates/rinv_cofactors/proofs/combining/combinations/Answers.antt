@@ -1,18 +1,19 @@
 use Rattle.std.proofs.Common.{rules, ◌≡◌, ◌<◌, ◌≤◌, ◌+◌, ◌∙◌, ℕ, List, [], ◌∷◌, true, false, ap, ap₂, sym, subst, subst₂, arith, length, get_or, map, take, All, None}
 use Rattle.std.proofs.lemmas.Result.{err_from_is_err_and}
 use Rattle.std.proofs.lemmas.List.{length-map, length_push, length-take-le, map-append}
-use Rattle.std.proofs.lemmas.List.Elements.{All-take, All-push}
+use Rattle.std.proofs.lemmas.List.Elements.{All-map, All-take, All-push}
 use Rattle.rinv_algebra.specs.Polynomial.{Polynomial, is_zero}
 use Rattle.rinv_algebra.specs.Normal.{IsNormal}
 use Rattle.rinv_groebner.specs.Orders.{OrdersMonomials}
 use Rattle.rinv_groebner.proofs.ListElements.{all_first}
 use Rattle.rinv_ring.specs.Fault.{DegreesMeet}
+use Rattle.rinv_poly.proofs.Meets.{meet-weaker}
 use Rattle.rinv_div.specs.Divisors.{AreDivisors}
 use Rattle.rinv_div.proofs.DividedBy.{divisors-next}
 use Rattle.rinv_buch.specs.declared.kinds.Entry.{Entry}
 use Rattle.rinv_buch.specs.declared.kinds.EntryKind.TheVariants.{Reduced}
 use Rattle.rinv_buch.specs.Kinds.{Found, entry_of}
-use Rattle.rinv_cofactors.specs.Combining.{AreCofactors, RestMeets, adds}
+use Rattle.rinv_cofactors.specs.Combining.{AreCofactors, CombiningMeets, RestMeets, adds}
 use Rattle.rinv_buch.proofs.InVariables.{orders-monomials, all-in_variables}
 use Rattle.rinv_cofactors.proofs.CombinedSums.{combines-sums, sums-at}
 use Rattle.rinv_cofactors.proofs.JournalSteps.{IsCombined, entry-at, entries-number, elements-nonzero, combined-begin, combined-stay, combined-add, combined-end, combining-meets, pair-ascends, pair-inside, next-inside}
@@ -113,8 +114,12 @@ returns-in_err-list-clause-degree g c =
     let count : c.len-then-adds.result ≡ length c.entries.lists.items = search rules in
     let front : take c.len-then-adds.result c.deref-then-adds.result.now ≡ take (length lists) polys = ap₂ take (count ∙ sym (length-map c.entries.lists.items (λ us. us.items))) whole in
     let p = err_from_is_err_and c.from_residual-in_err-list.result c.from_residual-in_err-list.ensures.1 in
-    rw (p.1, p.2) (combining-meets o cmp c.args.given.now journal polys k lists c.entries.invariant.combined inside e at on high c.in_err-list.field-0.0
-    (subst₂ (λ (hs : List (Polynomial _)) ls. DegreesMeet (RestMeets o cmp high hs (map (λ us. us.items) ls) e.first e.second) c.in_err-list.field-0.0) front c.deref-then-adds-2.ensures.value c.in_err-list.ensures.degree))
+    let is_element = g.F.Ring.is_element c.args.ring.now.coeffs in
+    let v = c.args.ring.now.vars in
+    let all_stored = All-map (All (IsNormal o is_element v)) (λ us. us.items) c.entries.lists.items c.entries.invariant.normal in
+    rw (p.1, p.2) (meet-weaker (RestMeets o is_element high v cmp (take (length lists) polys) lists e.first e.second) (CombiningMeets o is_element high v cmp c.args.given.now journal polys)
+    (combining-meets o cmp c.args.given.now journal polys k lists c.entries.invariant.combined inside e at on is_element high v all_stored) c.in_err-list.field-0.0
+    (subst₂ (λ (hs : List (Polynomial _)) ls. DegreesMeet (RestMeets o is_element high v cmp hs (map (λ us. us.items) ls) e.first e.second) c.in_err-list.field-0.0) front c.deref-then-adds-2.ensures.value c.in_err-list.ensures.degree))
 
 pub index-requires : goal.index-requires
 index-requires g c =

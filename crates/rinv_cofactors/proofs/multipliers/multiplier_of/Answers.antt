@@ -1,4 +1,4 @@
-use Rattle.std.proofs.Common.{◌≡◌, ◌<◌, ◌∷◌, [], ◌∙◌, sym, refl, subst}
+use Rattle.std.proofs.Common.{◌≡◌, ◌<◌, ◌∷◌, [], refl, subst}
 use Rattle.rinv_algebra.specs.Ring.{IsSame}
 use Rattle.rinv_algebra.specs.Monomial.{lcm, quotient, total_degree, max_degree}
 use Rattle.rinv_algebra.specs.Polynomial.{poly_ops}
@@ -15,7 +15,8 @@ returns-in-Err-Degree-clause-degree g c =
     let n = total_degree (lcm a b) in
     let over : max_degree < n = subst (IsOfDegree n) c.in-Err-Degree.field-0-is c.in-Err-Degree.ensures.high in
     multiplier-meets (g.F.Ring.ops c.args.ring.now.coeffs) (g.F.Ring.laws c.args.ring.now.coeffs) (g.O.MonoOrder.cmp c.args.order.now) c.args.f.now c.args.g.now a b c.leading_term.ensures.monomial c.leading_term-2.ensures.monomial
-    (g.O.MonoOrder.laws c.args.order.now) (c.leading_term.ensures.vars ∙ sym c.leading_term-2.ensures.vars) c.requires.first_nonzero n c.degree_beyond-left.result c.degree-right.result refl over c.degree_beyond-left.ensures c.degree-right.ensures.value
+    (g.O.MonoOrder.laws c.args.order.now) (g.F.Ring.is_element c.args.ring.now.coeffs) (g.F.Ring.too_high c.args.ring.now.coeffs) c.args.ring.now.vars c.leading_term-2.result.1.now c.leading_term.ensures.vars c.leading_term-2.ensures.vars c.leading_term-2.ensures.element c.leading_term-2.ensures.nonzero c.leading_term-2.ensures.coefficient
+    c.requires.first_nonzero n c.degree_beyond-left.result c.degree-right.result refl over c.degree_beyond-left.ensures.degree c.degree_beyond-left.ensures.low c.degree-right.ensures.value
 
 pub quotient-requires-clause-divides : goal.quotient-requires-clause-divides
 quotient-requires-clause-divides g c = rw c.in-Ok.ensures.value (lcm_left c.leading_term.result.0.now c.leading_term-2.result.0.now)
