@@ -90,7 +90,8 @@ module _ {E : Type 0} (o : RingOps E) (l : RingLaws o) (cmp : List ℕ → List 
       let m = quotient (lcm a b) a in
       let vars : length a ≡ length b = in_a ∙ sym in_b in
       let t : Polynomial E = (m, c) ∷ [] in
-      let bound = beyond-le a b in (
+      let len : length m ≡ v = length-quotient (lcm a b) a ∙ length-lcm a b vars ∙ in_a in
+      let bound : total_degree m ≤ max_degree = omega (arith, is_x, low) in (
         t,
         record {
           normal = one-normal o is_element v m c element some len bound;

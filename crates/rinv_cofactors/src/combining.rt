@@ -1,6 +1,6 @@
 //! The cofactors of a Gröbner basis over the polynomials given, made along its journal.
 
-ghost use Rattle.std.specs.Prelude.{◌≡◌, ◌<◌, ℕ, length, get_or, map, All, IfOk, IfErr};
+ghost use Rattle.std.specs.Prelude.{◌≡◌, ◌<◌, ℕ, [], length, get_or, map, All, IfOk, IfErr};
 ghost use Rattle.rinv_algebra.specs.Ring.{IsSame};
 ghost use Rattle.rinv_algebra.specs.Polynomial.{Polynomial, poly_ops};
 ghost use Rattle.rinv_algebra.specs.Normal.{IsNormal};
