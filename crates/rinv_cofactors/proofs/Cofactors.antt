@@ -182,7 +182,7 @@ module _ {E : Type 0} (o : RingOps E) (l : RingLaws o) where
     combined-value qs u same = pair-value (difference o (product o left a) (product o right b)) (combination o qs (column lists m)) u (of_pair o cmp list lists i j m) (combination o qs (column lists m)) both-multiples ((poly_laws o l).same_refl (combination o qs (column lists m))) same
 
     -- the degrees that it meets
-    pub combined-meets : (is_element : E → Bool) (high : RingOp → E → E → ℕ → ℕ → Type 0) (v : ℕ) → IsNormal o is_element v left → IsNormal o is_element v right → (qs : List (Polynomial E)) → AreQuotients o is_element high v cmp list i j qs
+    pub combined-meets : (is_element : E → Bool) (high : RingOp → E → E → ℕ → ℕ → Type 0) (v : ℕ) → IsNormal o is_element v left → IsNormal o is_element v right → (qs : List (Polynomial E)) → AreQuotients o is_element v cmp list i j qs
         → (x y : ℕ) → CombinedMeets o is_element high v left a right b qs (column lists m) x y → RestMeets o is_element high v cmp list lists i j x y
     combined-meets is_element high v nl nr qs are x y (CombinedMeets.in_left h) = RestMeets.in_first m (left, record { normal = nl; value = is_left }, subst (λ (c : Polynomial E). polynomials_meet o is_element high multiplies left c x y) at_a h)
     combined-meets is_element high v nl nr qs are x y (CombinedMeets.in_right h) = RestMeets.in_second m (right, record { normal = nr; value = is_right }, subst (λ (c : Polynomial E). polynomials_meet o is_element high multiplies right c x y) at_b h)
@@ -197,9 +197,9 @@ module _ {E : Type 0} (o : RingOps E) (l : RingLaws o) where
       pub division-meets : (x y : ℕ) → StepsMeet o cmp list s is_element high x y → RestMeets o is_element high v cmp list lists i j x y
       division-meets x y m = RestMeets.in_division (record { steps = m.steps; working = m.working; by_steps = steps-same o cmp l list s (s_at o cmp list i j) is_s m.steps m.working m.by_steps; meets = m.meets })
 
-      -- its quotients
-      pub are-quotients : (qs : List (Polynomial E)) (rest : Polynomial E) → (steps : List (Step E)) × Divides o cmp list s qs rest steps → All (IsNormal o is_element v) qs → AreQuotients o is_element high v cmp list i j qs
-      are-quotients qs rest (steps, d) stored = record { steps = steps; rest = rest; divides = divides-same cmp list s (s_at o cmp list i j) is_s qs rest steps d; stored = stored }
+    -- its quotients
+    pub are-quotients : (is_element : E → Bool) (v : ℕ) (qs : List (Polynomial E)) (rest : Polynomial E) → (steps : List (Step E)) × Divides o cmp list s qs rest steps → All (IsNormal o is_element v) qs → AreQuotients o is_element v cmp list i j qs
+    are-quotients is_element v qs rest (steps, d) stored = record { steps = steps; rest = rest; divides = divides-same cmp list s (s_at o cmp list i j) is_s qs rest steps d; stored = stored }
 
     -- the cofactors of a rest
     pub are-cofactors : (n : ℕ) (qs us : List (Polynomial E)) (rest : Polynomial E) → (steps : List (Step E)) × Divides o cmp list s qs rest steps → length us ≡ n → ((m : ℕ) → m < n → IsSame (poly_ops o) (get_or us m []) (combined o cmp list lists i j qs m)) → (rest : Polynomial E) × AreCofactors o cmp n list lists i j rest us

@@ -77,6 +77,13 @@ module _ {E : Type 0} (o : RingOps E) (cmp : List ℕ → List ℕ → Ordering)
         → Combines given journal list lists → IsEntry o cmp journal list e (list ++ rest ∷ []) → AreCofactors (length given) list lists e.first e.second rest us
         → Combines given (journal ++ e ∷ []) (list ++ rest ∷ []) (lists ++ us ∷ [])
 
+-- qs are the quotients, as they are stored, of a division of the S-polynomial of the elements at two places
+pub record AreQuotients {E : Type 0} (o : RingOps E) (is_element : E → Bool) (v : ℕ) (cmp : List ℕ → List ℕ → Ordering) (list : List (Polynomial E)) (i j : ℕ) (qs : List (Polynomial E)) : Type 0 where
+  pub steps : List (Step E)
+  pub rest : Polynomial E
+  pub divides : Divides o cmp list (s_at o cmp list i j) qs rest steps
+  pub stored : All (IsNormal o is_element v) qs
+
 module _ {E : Type 0} (o : RingOps E) (is_element : E → Bool) (too_high : RingOp → E → E → ℕ → ℕ → Type 0) (v : ℕ) where
   -- left*a - right*b, less the products of the polynomials of two lists, may answer these degrees: in one of the products, in the sum of
   -- those of the lists, or in a difference
@@ -88,13 +95,6 @@ module _ {E : Type 0} (o : RingOps E) (is_element : E → Bool) (too_high : Ring
     in_difference : DifferenceMeets o is_element too_high v (difference o (product o left a) (product o right b)) (combination o qs cs) x y → CombinedMeets left a right b qs cs x y
 
   module _ (cmp : List ℕ → List ℕ → Ordering) where
-    -- qs are the quotients, as they are stored, of a division of the S-polynomial of the elements at two places
-    pub record AreQuotients (list : List (Polynomial E)) (i j : ℕ) (qs : List (Polynomial E)) : Type 0 where
-      pub steps : List (Step E)
-      pub rest : Polynomial E
-      pub divides : Divides o cmp list (s_at o cmp list i j) qs rest steps
-      pub stored : All (IsNormal o is_element v) qs
-
     -- making the cofactors of a pair's rest may answer these degrees: in the S-polynomial, in its division, or at a place, in a multiple
     -- of a cofactor, in the sum of the quotients times the cofactors, or in a difference
     pub data RestMeets (list : List (Polynomial E)) (lists : List (List (Polynomial E))) (i j x y : ℕ) : Type 0 where
@@ -103,8 +103,8 @@ module _ {E : Type 0} (o : RingOps E) (is_element : E → Bool) (too_high : Ring
       in_first : (m : ℕ) → TermMeets o is_element too_high v (multiplier o cmp (get_or list i []) (get_or list j [])) (cofactor lists i m) x y → RestMeets list lists i j x y
       in_second : (m : ℕ) → TermMeets o is_element too_high v (multiplier o cmp (get_or list j []) (get_or list i [])) (cofactor lists j m) x y → RestMeets list lists i j x y
       in_pair : (m : ℕ) → DifferenceMeets o is_element too_high v (multiple o cmp list lists i j m) (multiple o cmp list lists j i m) x y → RestMeets list lists i j x y
-      in_sum : (qs : List (Polynomial E)) → AreQuotients list i j qs → (m : ℕ) → ProductsSumMeet o is_element too_high v qs (column lists m) x y → RestMeets list lists i j x y
-      in_difference : (qs : List (Polynomial E)) → AreQuotients list i j qs → (m : ℕ) → DifferenceMeets o is_element too_high v (of_pair o cmp list lists i j m) (combination o qs (column lists m)) x y → RestMeets list lists i j x y
+      in_sum : (qs : List (Polynomial E)) → AreQuotients o is_element v cmp list i j qs → (m : ℕ) → ProductsSumMeet o is_element too_high v qs (column lists m) x y → RestMeets list lists i j x y
+      in_difference : (qs : List (Polynomial E)) → AreQuotients o is_element v cmp list i j qs → (m : ℕ) → DifferenceMeets o is_element too_high v (of_pair o cmp list lists i j m) (combination o qs (column lists m)) x y → RestMeets list lists i j x y
 
     -- so it may at an entry that adds a rest, with the list and the cofactors, as they are stored, that the entries before it made
     pub record CombiningMeets (given : List (Polynomial E)) (journal : List Entry) (polys : List (Polynomial E)) (x y : ℕ) : Type 0 where

@@ -159,7 +159,7 @@ returns-in_err-cofactor-clause-degree g c =
     let b = c.index-in-places.result.now in
     let qs = c.in_ok-division.division.quotients.items in
     let m = c.places.place in
-    let are = are-quotients o l cmp hs lists i j c.in_ok-s.s is_s e high v qs c.in_ok-division.division.rest c.in_ok-division.ensures.division c.in_ok-division.ensures.quotients in
+    let are = are-quotients o l cmp hs lists i j c.in_ok-s.s is_s e v qs c.in_ok-division.division.rest c.in_ok-division.ensures.division c.in_ok-division.ensures.quotients in
     let p = err_from_is_err_and c.from_residual-in_err-cofactor.result c.from_residual-in_err-cofactor.ensures.1 in
     rw (p.1, p.2) (meet-weaker (CombinedMeets o e high v c.in_ok-left.left a c.in_ok-right.right b qs (column lists m)) (RestMeets o e high v cmp hs lists i j)
     (combined-meets o l cmp hs lists i j c.in_ok-left.left c.in_ok-right.right is_left is_right m a b at_a at_b e high v c.in_ok-left.ensures.element c.in_ok-right.ensures.element qs are) c.in_err-cofactor.field-0.0 (rw c.deref.ensures.value at c.in_err-cofactor.ensures.degree))
