@@ -52,7 +52,7 @@ returns-in_err-division-clause-degree g c =
     let cmp = g.O.MonoOrder.cmp c.args.order.now in
     let hs = c.args.elements.now.polys.items in
     let taken = get_or_read hs c.args.place c.remove-element.result c.requires.inside c.remove-element.ensures.value [] in
-    let p = err_from_is_err_and c.from_residual-in_err-division.result c.from_residual-in_err-division.ensures.1 in
+    let p = err_from_is_err_and c.from_residual.result c.from_residual.ensures.1 in
     rw (p.1, p.2) (meet-weaker (StepsMeet o cmp c.deref.result.now c.remove-element.result e high) (MakingMeets o e high v cmp hs c.args.place)
     (dividing-meets o e high v cmp hs c.deref.result.now c.args.place c.remove-element.result (c.deref.ensures.value ∙ c.remove-element.ensures.items) taken) c.in_err-division.field-0.0 c.in_err-division.ensures.degree)
 
