@@ -7,10 +7,8 @@ ghost use Rattle.rinv_algebra.specs.Polynomial.{is_zero};
 ghost use Rattle.rinv_algebra.specs.Normal.{IsNormal};
 ghost use Rattle.rinv_algebra.specs.Leading.{leading_monomial};
 ghost use Rattle.rinv_groebner.specs.Basis.{IsGroebnerBasis};
-ghost use Rattle.rinv_groebner.specs.Division.{Step, IsDivision};
 ghost use Rattle.rinv_groebner.specs.Reduced.{IsReducedGroebnerBasis, IsMadeAt, IsMonicOf, Ascend, kept};
 ghost use Rattle.rinv_ring.specs.Fault.{DegreesMeet};
-ghost use Rattle.rinv_div.specs.Divisors.{AreDivisors};
 ghost use Rattle.rinv_buch.specs.Elements.{ArePrepared};
 ghost use Rattle.rinv_buch.specs.Reducing.{MakingMeets, MonicMeets, ReducingMeets, AreLeadsApart, is_kept_place, kept_places};
 

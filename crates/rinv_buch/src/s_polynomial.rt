@@ -1,11 +1,11 @@
 //! The S-polynomial of two polynomials: multiples whose leading terms cancel.
 
-ghost use Rattle.std.specs.Prelude.{◌≡◌, ◌≤◌, ◌+◌, ◌⊎◌, ℕ, List, [], ◌∷◌, length, false, IsTrue, IfOk, IfErr, IfSome};
+ghost use Rattle.std.specs.Prelude.{◌≡◌, ◌≤◌, length, false, IsTrue, IfOk, IfErr};
 ghost use Rattle.rinv_algebra.specs.Ring.{IsSame};
 ghost use Rattle.rinv_algebra.specs.Monomial.{lcm, total_degree, max_degree};
-ghost use Rattle.rinv_algebra.specs.Polynomial.{Term, poly_ops, term_product, is_zero};
+ghost use Rattle.rinv_algebra.specs.Polynomial.{poly_ops, term_product, is_zero};
 ghost use Rattle.rinv_algebra.specs.Normal.{IsNormal};
-ghost use Rattle.rinv_algebra.specs.Leading.{leading_monomial, leading_coefficient, multiplier, s_polynomial};
+ghost use Rattle.rinv_algebra.specs.Leading.{leading_monomial, leading_coefficient, s_polynomial};
 ghost use Rattle.rinv_ring.specs.Fault.{DegreesMeet};
 ghost use Rattle.rinv_poly.specs.Combined.{TermMeets};
 ghost use Rattle.rinv_buch.specs.Causes.{SPolynomialMeets};

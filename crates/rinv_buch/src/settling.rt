@@ -1,6 +1,6 @@
 //! One pair: nothing is to be done where it is coprime, else its S-polynomial is divided.
 
-ghost use Rattle.std.specs.Prelude.{◌≡◌, ◌<◌, ◌≤◌, ℕ, length, IsTrue, IfOk, IfErr};
+ghost use Rattle.std.specs.Prelude.{◌≡◌, ◌<◌, ◌≤◌, length, IsTrue, IfOk, IfErr};
 ghost use Rattle.rinv_algebra.specs.Monomial.{total_degree, max_degree};
 ghost use Rattle.rinv_algebra.specs.Normal.{IsNormal};
 ghost use Rattle.rinv_groebner.specs.Settled.{lcm_at};
