@@ -1,4 +1,4 @@
-//! Gröbner bases: Buchberger's algorithm with a journal and a budget, the cofactors of its elements, and the reduced basis.
+//! Gröbner bases: Buchberger's algorithm with a journal and a budget, and the reduced basis.
 #![tactic(auto)]
 
 mod buchberger;
