@@ -1,4 +1,4 @@
-use Rattle.std.proofs.Common.{◌≡◌, ◌-◌, ◌∙◌, ℕ, get_or, arith, ap₂, refl}
+use Rattle.std.proofs.Common.{◌≡◌, ◌-◌, ◌∙◌, get_or, arith, ap₂, refl}
 use Rattle.rinv_cofactors.proofs.PairMultipliers.{beyond-le, beyond-next, beyond-bound, beyond-end}
 use Rattle.rinv_cofactors.proofs.multipliers.degree_beyond.Goals as goal
 
