@@ -5,9 +5,9 @@ ghost use Rattle.rinv_algebra.specs.Normal.{IsNormal};
 ghost use Rattle.rinv_algebra.specs.Residue.{residue_ops};
 ghost use Rattle.rinv_buch.specs.Spent.{IsKept};
 
-use crate::tables::{Term, are_lists, nonzero};
-use rinv_buch::{Basis, EntryKind, Stop, Why, basis, interreduce};
-use rinv_cofactors::combinations;
+use crate::tables::{Term, are_lists, is_list, nonzero, pair};
+use rinv_buch::{Basis, EntryKind, Stop, Why, basis, interreduce, kept_places};
+use rinv_cofactors::{combinations, sum_of_products};
 use rinv_div::Budget;
 use rinv_mono::Grevlex;
 use rinv_poly::{KPoly, PolyRing};
@@ -22,6 +22,16 @@ const REDUCED: &[&[Term]] = &[&[(1, 1, 0), (100, 0, 1)], &[(1, 0, 2), (100, 0, 0
 
 // x^6000 - 1 and y^6000 - 1.
 const HIGH: &[&[Term]] = &[&[(1, 6000, 0), (100, 0, 0)], &[(1, 0, 6000), (100, 0, 0)]];
+
+// Polynomials with the leading monomials x^2*y, x*y, x*y and y^2, and the places of those that stay in a reduced basis.
+const LED: &[&[Term]] = &[
+    &[(1, 2, 1)],
+    &[(1, 1, 1), (1, 0, 0)],
+    &[(2, 1, 1)],
+    &[(1, 0, 2), (1, 1, 0)],
+];
+
+const KEPT: &[usize] = &[1, 3];
 
 // How a run ends.
 #[derive(Clone, Copy, Debug, PartialEq, Eq)]
@@ -133,6 +143,31 @@ fn reduced_basis(
     }
 }
 
+// Whether the polynomials at these places are kept.
+fn keeps(
+    alloc: Global,
+    ring: &PolyRing<Gf>,
+    lists: &[&[Term]],
+    places: &[usize],
+) -> Result<bool, RingFault>
+    requires vars { ring.now.vars ≡ 2 }
+{
+    let polys = nonzero(alloc, ring, lists)?;
+    let kept = kept_places(ring, alloc, &polys, &Grevlex)?;
+    Ok(kept.as_slice() == places)
+}
+
+// x times x and y times y + 5, the second cofactors of the lists.
+fn second_cofactors(alloc: Global, ring: &PolyRing<Gf>) -> Result<KPoly, RingFault>
+    requires vars { ring.now.vars ≡ 2 }
+{
+    let quotients = pair(alloc, ring, &[(1, 1, 0)], &[(1, 0, 1)])?;
+    let mut lists = Vec::new(alloc);
+    lists.push(pair(alloc, ring, &[(1, 0, 0)], &[(1, 1, 0)])?)?;
+    lists.push(pair(alloc, ring, &[], &[(1, 0, 1), (5, 0, 0)])?)?;
+    sum_of_products(ring, alloc, &quotients, &lists, 1)
+}
+
 // Whether these are cofactors of the polynomial over those given.
 fn combines(
     alloc: Global,
@@ -195,5 +230,20 @@ fn finds_a_basis_and_reduces_it(rt: HostRuntime) -> Result<(), Fail> {
 fn combines_the_polynomials_given(rt: HostRuntime) -> Result<(), Fail> {
     let ring = PolyRing::new(Gf::new(101)?, 2);
     assert!(rt; all_combine(rt.alloc(), &ring, LOW)?);
+    Ok(())
+}
+
+#[test]
+fn keeps_the_least_leading_monomials(rt: HostRuntime) -> Result<(), Fail> {
+    let ring = PolyRing::new(Gf::new(101)?, 2);
+    assert!(rt; keeps(rt.alloc(), &ring, LED, KEPT)?);
+    Ok(())
+}
+
+#[test]
+fn adds_up_cofactors_at_a_place(rt: HostRuntime) -> Result<(), Fail> {
+    let ring = PolyRing::new(Gf::new(101)?, 2);
+    let sum = second_cofactors(rt.alloc(), &ring)?;
+    assert!(rt; is_list(&ring, &sum, &[(1, 2, 0), (1, 0, 2), (5, 0, 1)]));
     Ok(())
 }

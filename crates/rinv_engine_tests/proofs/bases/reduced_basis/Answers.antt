@@ -5,7 +5,7 @@ use Rattle.rinv_algebra.proofs.Grevlex.{grevlex_laws, grevlex_ties}
 use Rattle.rinv_algebra.proofs.ResidueField.{residue_field_laws}
 use Rattle.rinv_algebra.proofs.ResidueLaws.{residue_laws}
 use Rattle.rinv_buch.proofs.OwnIdeal.{nonzero-each, over-itself}
-use Rattle.rinv_tests.proofs.bases.reduced_basis.Goals as goal
+use Rattle.rinv_engine_tests.proofs.bases.reduced_basis.Goals as goal
 
 pub interreduce-requires-clause-nonzero : goal.interreduce-requires-clause-nonzero
 interreduce-requires-clause-nonzero c = nonzero-each (residue_ops c.args.ring.now.coeffs) c.in-Ok.found.polys c.in-Ok.ensures.nonzero

@@ -1,17 +1,17 @@
-//! Divisions of small polynomials in x and y, with steps enough and with too few, and a division by a monic polynomial over two rings.
+//! Divisions of small polynomials in x and y, with steps enough and with too few, with divisors that are prepared once, and for the rest
+//! alone.
 
-ghost use Rattle.std.specs.Prelude.{◌≡◌, false, true, All, IsTrue, IfOk, IfSome};
-ghost use Rattle.rinv_algebra.specs.Ring.{IsSame};
-ghost use Rattle.rinv_algebra.specs.Polynomial.{is_zero};
-ghost use Rattle.rinv_algebra.specs.Leading.{leading_coefficient};
-ghost use Rattle.rinv_algebra.specs.Normal.{IsNormal};
+ghost use Rattle.std.specs.Prelude.{◌≡◌};
 ghost use Rattle.rinv_div.specs.Budgets.{IsWithin};
 
 use crate::tables::{Term, are_lists, is_list, nonzero, polynomial};
-use rinv_div::{Budget, DivStop, Division, divide, divide_monic};
-use rinv_mono::{Blocks, Grevlex, Mono, MonoOrder};
-use rinv_poly::{Poly, PolyRing};
-use rinv_ring::{Gf, NoMemory, Ring, RingFault};
+use rinv_div::{
+    Budget, DivStop, Division, divide, divide_by, divide_wholly, divisors_of, remainder_by,
+    remainder_wholly,
+};
+use rinv_mono::{Blocks, Grevlex, MonoOrder};
+use rinv_poly::PolyRing;
+use rinv_ring::{Gf, NoMemory, RingFault};
 use std::alloc::Global;
 use std::test::Fail;
 
@@ -119,6 +119,60 @@ fn divides_so(
     }
 }
 
+// Whether a division by prepared divisors gives these quotients and this rest, and so does the division for the rest alone.
+fn divides_wholly_so(
+    alloc: Global,
+    ring: &PolyRing<Gf>,
+    f: &[Term],
+    divisors: &[&[Term]],
+    quotients: &[&[Term]],
+    rest: &[Term],
+) -> Result<bool, RingFault>
+    requires vars { ring.now.vars ≡ 2 }
+{
+    let f = polynomial(alloc, ring, f)?;
+    let basis = nonzero(alloc, ring, divisors)?;
+    let prepared = divisors_of(ring, alloc, &basis, &Grevlex)?;
+    let division = divide_wholly(ring, alloc, &f, &basis, &prepared, &Grevlex)?;
+    let left = remainder_wholly(ring, alloc, &f, &basis, &prepared, &Grevlex)?;
+    Ok(
+        are_lists(ring, &division.quotients, quotients)
+            && is_list(ring, &division.rest, rest)
+            && is_list(ring, &left, rest),
+    )
+}
+
+// The same with so many steps given, of which each of the two spends so many.
+fn spends_so(
+    alloc: Global,
+    ring: &PolyRing<Gf>,
+    f: &[Term],
+    divisors: &[&[Term]],
+    given: u64,
+    rest: &[Term],
+    spent: u64,
+) -> Result<bool, RingFault>
+    requires vars { ring.now.vars ≡ 2 }
+{
+    let f = polynomial(alloc, ring, f)?;
+    let basis = nonzero(alloc, ring, divisors)?;
+    let prepared = divisors_of(ring, alloc, &basis, &Grevlex)?;
+    let mut steps = of_steps(given);
+    let Ok(division) = divide_by(ring, alloc, &f, &basis, &prepared, &Grevlex, &mut steps) else {
+        return Ok(false);
+    };
+    let mut others = of_steps(given);
+    let Ok(left) = remainder_by(ring, alloc, &f, &basis, &prepared, &Grevlex, &mut others) else {
+        return Ok(false);
+    };
+    Ok(
+        steps.steps_spent == spent
+            && others.steps_spent == spent
+            && is_list(ring, &division.rest, rest)
+            && is_list(ring, &left, rest),
+    )
+}
+
 // Whether it stops when so many steps are spent, and this is left.
 fn halts_so(
     alloc: Global,
@@ -198,113 +252,13 @@ fn stops(rt: HostRuntime) -> Result<(), Fail> {
     Ok(())
 }
 
-// Whether the polynomial has a leading coefficient, and that is one.
-fn is_monic<R: Ring, O: MonoOrder>(
-    ring: &PolyRing<R>,
-    alloc: Global,
-    h: &Poly<R>,
-    order: &O,
-) -> Result<bool, RingFault>
-    requires polynomial { IsNormal (R.ops ring.now.coeffs) (R.is_element ring.now.coeffs) ring.now.vars h.now }
-    requires suits { O.fits order.now ring.now.vars }
-    ensures nonzero { IfOk result (λ monic. monic ≡ true → is_zero (R.ops ring.now.coeffs) h.now ≡ false) }
-    ensures monic { IfOk result (λ monic. monic ≡ true → IsSame (R.ops ring.now.coeffs) (leading_coefficient (R.ops ring.now.coeffs) (O.cmp order.now) h.now) (R.ops ring.now.coeffs).one) }
-{
-    if ring.is_zero(h) {
-        return Ok(false);
-    }
-    let Some(place) = ring.lead(h, order) else {
-        return Ok(false);
-    };
-    let coeffs = ring.coeffs();
-    let one = coeffs.one(alloc)?;
-    let same = coeffs.same(alloc, ring.coeff(h, place), &one)?;
-    Ok(same)
-}
-
-// The division by a polynomial; None where that is not monic.
-fn divided_by_monic<R: Ring>(
-    ring: &PolyRing<R>,
-    alloc: Global,
-    f: &Poly<R>,
-    h: Poly<R>,
-) -> Result<Option<Division<R>>, RingFault>
-    requires dividend { IsNormal (R.ops ring.now.coeffs) (R.is_element ring.now.coeffs) ring.now.vars f.now }
-    requires divisor { IsNormal (R.ops ring.now.coeffs) (R.is_element ring.now.coeffs) ring.now.vars h }
-    ensures quotients { IfOk result (λ found. IfSome found (λ d. All (IsNormal (R.ops ring.now.coeffs) (R.is_element ring.now.coeffs) ring.now.vars) d.quotients.items)) }
-    ensures rest { IfOk result (λ found. IfSome found (λ d. IsNormal (R.ops ring.now.coeffs) (R.is_element ring.now.coeffs) ring.now.vars d.rest)) }
-{
-    if !is_monic(ring, alloc, &h, &Grevlex)? {
-        return Ok(None);
-    }
-    let basis = vec![in alloc; h]?;
-    let division = divide_monic(ring, alloc, f, &basis, &Grevlex)?;
-    Ok(Some(division))
-}
-
-// c*x^k + d.
-fn binomial<R: Ring>(
-    ring: &PolyRing<R>,
-    alloc: Global,
-    c: R::Elem,
-    k: u32,
-    d: R::Elem,
-) -> Result<Poly<R>, RingFault>
-    requires count { ring.now.vars ≡ 1 }
-    requires first { IsTrue (R.is_element ring.now.coeffs c) }
-    requires last { IsTrue (R.is_element ring.now.coeffs d) }
-    ensures { IfOk result (λ f. IsNormal (R.ops ring.now.coeffs) (R.is_element ring.now.coeffs) ring.now.vars f) }
-{
-    let mut terms = Vec::new(alloc);
-    if let Some(mono) = Mono::from_exponents(alloc, &[k])? {
-        terms.push((mono, c))?;
-    }
-    if let Some(mono) = Mono::from_exponents(alloc, &[0])? {
-        terms.push((mono, d))?;
-    }
-    ring.from_terms(alloc, terms)
-}
-
-// Whether x^2 by x + a has the quotient x - a and the rest a^2.
-fn leaves_the_square<R: Ring>(
-    ring: &PolyRing<R>,
-    alloc: Global,
-    a: &R::Elem,
-) -> Result<bool, RingFault>
-    requires count { ring.now.vars ≡ 1 }
-    requires element { IsTrue (R.is_element ring.now.coeffs a.now) }
-{
-    let coeffs = ring.coeffs();
-    let square = binomial(ring, alloc, coeffs.one(alloc)?, 2, coeffs.zero(alloc)?)?;
-    let divisor = binomial(ring, alloc, coeffs.one(alloc)?, 1, coeffs.copy(alloc, a)?)?;
-    let Some(division) = divided_by_monic(ring, alloc, &square, divisor)? else {
-        return Ok(false);
-    };
-    let opposite = coeffs.sub(alloc, &coeffs.zero(alloc)?, a)?;
-    let quotient = binomial(ring, alloc, coeffs.one(alloc)?, 1, opposite)?;
-    let rest = binomial(
-        ring,
-        alloc,
-        coeffs.zero(alloc)?,
-        1,
-        coeffs.mul(alloc, a, a)?,
-    )?;
-    match division.quotients.first() {
-        Some(found) => {
-            Ok(ring.same(alloc, found, &quotient)? && ring.same(alloc, &division.rest, &rest)?)
-        }
-        None => Ok(false),
-    }
-}
-
 #[test]
-fn divides_by_a_monic_polynomial(rt: HostRuntime) -> Result<(), Fail> {
+fn divides_by_prepared_divisors(rt: HostRuntime) -> Result<(), Fail> {
     let alloc = rt.alloc();
-    let numbers = PolyRing::new(Gf::new(7)?, 1);
-    assert!(rt; leaves_the_square(&numbers, alloc, &3)?, "x^2 by x + 3");
-    let inner = PolyRing::new(Gf::new(7)?, 2);
-    let a = polynomial(alloc, &inner, &[(1, 1, 0)])?;
-    let outer = PolyRing::new(inner, 1);
-    assert!(rt; leaves_the_square(&outer, alloc, &a)?, "x^2 by x + a");
+    for (modulus, f, divisors, given, quotients, rest, spent) in DIVIDED {
+        let ring = PolyRing::new(Gf::new(*modulus)?, 2);
+        assert!(rt; divides_wholly_so(alloc, &ring, f, divisors, quotients, rest)?);
+        assert!(rt; spends_so(alloc, &ring, f, divisors, *given, rest, *spent)?);
+    }
     Ok(())
 }

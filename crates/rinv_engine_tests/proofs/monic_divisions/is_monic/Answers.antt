@@ -6,7 +6,7 @@ use Rattle.rinv_algebra.proofs.RingFacts as facts
 use Rattle.rinv_poly.proofs.Forms.{ordered-from_normal}
 use Rattle.rinv_div.proofs.OrderFacts.{ties_in}
 use Rattle.rinv_buch.proofs.LeadingTerms.{lead-coefficient}
-use Rattle.rinv_tests.proofs.divisions.is_monic.Goals as goal
+use Rattle.rinv_engine_tests.proofs.monic_divisions.is_monic.Goals as goal
 
 pub same-requires-clause-left : goal.same-requires-clause-left
 same-requires-clause-left g c =

@@ -1,11 +1,12 @@
 //! Small tables over GF(7), and each call once over two rings.
 
-ghost use Rattle.std.specs.Prelude.{IsTrue};
+ghost use Rattle.std.specs.Prelude.{◌≡◌, nat_lt, IfOk, IsTrue};
 ghost use Rattle.rinv_algebra.specs.Normal.{IsNormal};
+ghost use Rattle.rinv_algebra.specs.Residue.{residue_ops};
 
 use crate::tables::{is_list, polynomial};
 use rinv_mono::{Blocks, Grevlex, Mono, MonoOrder};
-use rinv_poly::{Poly, PolyRing};
+use rinv_poly::{KPoly, Poly, PolyRing};
 use rinv_ring::{Field, Gf, Ring, RingFault};
 use std::alloc::Global;
 use std::test::Fail;
@@ -52,6 +53,48 @@ fn subtracts_a_polynomial(rt: HostRuntime) -> Result<(), Fail> {
     let x_y = polynomial(alloc, &ring, &[(1, 0, 1), (1, 1, 0)])?;
     let difference = ring.sub(alloc, &x_6, &x_y)?;
     assert!(rt; is_list(&ring, &difference, &[(6, 0, 1), (6, 0, 0)]));
+    Ok(())
+}
+
+#[test]
+fn takes_elements_for_constants(rt: HostRuntime) -> Result<(), Fail> {
+    let alloc = rt.alloc();
+    let ring = PolyRing::new(Gf::new(7)?, 2);
+    let five = ring.constant(alloc, 5)?;
+    let zero = ring.constant(alloc, 0)?;
+    assert!(rt; is_list(&ring, &five, &[(5, 0, 0)]) && is_list(&ring, &zero, &[]));
+    Ok(())
+}
+
+// 1 + x + .. + x^(count - 1).
+fn powers_of_x(alloc: Global, ring: &PolyRing<Gf>, count: u32) -> Result<KPoly, RingFault>
+    requires vars { ring.now.vars ≡ 2 }
+    ensures { IfOk result (IsNormal (residue_ops ring.now.coeffs) (λ c. nat_lt c ring.now.coeffs) ring.now.vars) }
+{
+    let mut terms = Vec::new(alloc);
+    for k in 0..count {
+        terms.push((1, k, 0))?;
+    }
+    polynomial(alloc, ring, &terms)
+}
+
+// Whether (x - 1)*s^2 is (x^200 - 1)*s for s = 1 + x + .. + x^199. The square has 40,000 products of two terms, in three pieces.
+fn squares_by_pieces(alloc: Global, ring: &PolyRing<Gf>) -> Result<bool, RingFault>
+    requires vars { ring.now.vars ≡ 2 }
+{
+    let s = powers_of_x(alloc, ring, 200)?;
+    let square = ring.mul(alloc, &s, &s)?;
+    let first = polynomial(alloc, ring, &[(1, 1, 0), (6, 0, 0)])?;
+    let last = polynomial(alloc, ring, &[(1, 200, 0), (6, 0, 0)])?;
+    let left = ring.mul(alloc, &first, &square)?;
+    let right = ring.mul(alloc, &last, &s)?;
+    ring.same(alloc, &left, &right)
+}
+
+#[test]
+fn multiplies_many_terms(rt: HostRuntime) -> Result<(), Fail> {
+    let ring = PolyRing::new(Gf::new(7)?, 2);
+    assert!(rt; squares_by_pieces(rt.alloc(), &ring)?);
     Ok(())
 }
 

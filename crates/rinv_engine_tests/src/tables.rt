@@ -1,6 +1,6 @@
 //! Polynomials in two variables over the numbers modulo a prime, from tables.
 
-ghost use Rattle.std.specs.Prelude.{◌≡◌, false, nat_lt, All, IfOk};
+ghost use Rattle.std.specs.Prelude.{◌≡◌, false, length, nat_lt, All, IfOk};
 ghost use Rattle.rinv_algebra.specs.Polynomial.{is_zero};
 ghost use Rattle.rinv_algebra.specs.Normal.{IsNormal};
 ghost use Rattle.rinv_algebra.specs.Residue.{residue_ops};
@@ -30,6 +30,23 @@ pub(crate) fn polynomial(
         }
     }
     ring.from_terms(alloc, terms)
+}
+
+// Both sums, one after the other.
+pub(crate) fn pair(
+    alloc: Global,
+    ring: &PolyRing<Gf>,
+    first: &[Term],
+    second: &[Term],
+) -> Result<Vec<KPoly>, RingFault>
+    requires vars { ring.now.vars ≡ 2 }
+    ensures elements { IfOk result (λ fs. All (IsNormal (residue_ops ring.now.coeffs) (λ c. nat_lt c ring.now.coeffs) ring.now.vars) fs.items) }
+    ensures many { IfOk result (λ fs. length fs.items ≡ 2) }
+{
+    let mut list = Vec::new(alloc);
+    list.push(polynomial(alloc, ring, first)?)?;
+    list.push(polynomial(alloc, ring, second)?)?;
+    Ok(list)
 }
 
 // Those of the polynomials that are not zero.

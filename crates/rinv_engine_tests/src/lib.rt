@@ -6,6 +6,10 @@ mod bases;
 #[cfg(test)]
 mod divisions;
 #[cfg(test)]
+mod monic_divisions;
+#[cfg(test)]
 mod polynomials;
+#[cfg(test)]
+mod substitutions;
 #[cfg(test)]
 mod tables;
