@@ -1,25 +1,20 @@
-//! The answer of a command to the bytes that were read: a text and a status, before anything is written.
+//! The answer of a command to bytes, in one line a command.
 
-ghost use Rattle.std.specs.Prelude.{◌≤◌, length, IfOk};
-ghost use Rattle.rinv_app.specs.Run.{IsAnswer, max_input};
+ghost use Rattle.std.specs.Prelude.{◌<◌, ◌-◌, ◌^◌, length, IfOk};
+ghost use Rattle.rinv_answers.specs.Answers.{IsAnswer};
 
-use crate::laws::laws_of;
-use crate::status::Status;
-use crate::verdict::verdict_on;
-use crate::words::Command;
+use crate::command::Command;
+use crate::commands::{check, laws};
+use crate::ending::Ending;
 use std::alloc::{AllocError as NoMemory, Global};
 
-/// What the command prints for these bytes, and the status.
-pub(crate) fn answer(
-    alloc: Global,
-    command: Command,
-    bytes: &[u8],
-) -> Result<(Vec<u8>, Status), NoMemory>
-    requires { length bytes.now ≤ max_input }
+/// The text that the command answers to these bytes, and how it ends.
+pub fn answer(alloc: Global, command: Command, bytes: &[u8]) -> Result<(Vec<u8>, Ending), NoMemory>
+    requires { length bytes.now < 2 ^ 32 - 1 }
     ensures { IfOk result (λ a. IsAnswer command bytes.now a.0.items a.1) }
 {
     match command {
-        Command::Check => verdict_on(alloc, bytes),
-        Command::Laws => laws_of(alloc, bytes),
+        Command::Check => check::answer(alloc, bytes),
+        Command::Laws => laws::answer(alloc, bytes),
     }
 }

@@ -1,39 +1,39 @@
-//! The answer to the bytes of a certificate: a text and a status, before anything is written.
+//! The answer to the bytes of a certificate: a text and how it ends.
 
 ghost use Rattle.std.specs.Prelude.{◌≡◌, ◌<◌, ◌^◌, [], length, true, IfOk, None, codes};
 ghost use Rattle.rinv_defs.specs.Names.{are_names};
 ghost use Rattle.rinv_defs.specs.Format.{format_failure};
 ghost use Rattle.rinv_defs.specs.Text.{yes_text, no_text, refused_text};
 ghost use Rattle.rinv_cert.specs.Faults.{part_word};
-ghost use Rattle.rinv_app.specs.CheckAnswers.{IsVerdict};
+ghost use Rattle.rinv_answers.specs.Commands.Check.{IsCheckAnswer};
 
+use crate::ending::Ending;
 use crate::fraction::write_lines;
-use crate::status::Status;
 use rinv_cert::{CertFault, CertStop, Certificate, Name, from_json};
 use rinv_check::{FormatStop, Verdict, check, stored};
 use rinv_text::{Names, TextStop};
 use std::alloc::{AllocError as NoMemory, Global};
 
-/// What is printed for the bytes of a certificate, and the status.
-pub(crate) fn verdict_on(alloc: Global, bytes: &[u8]) -> Result<(Vec<u8>, Status), NoMemory>
-    ensures { IfOk result (λ a. IsVerdict bytes.now a.0.items a.1) }
+/// What is printed for the bytes of a certificate, and how that ends.
+pub(crate) fn answer(alloc: Global, bytes: &[u8]) -> Result<(Vec<u8>, Ending), NoMemory>
+    ensures { IfOk result (λ a. IsCheckAnswer bytes.now a.0.items a.1) }
 {
     let certificate = match from_json(alloc, bytes) {
         Ok(certificate) => certificate,
         Err(CertStop::Fault(fault)) => {
             let text = fault_line(alloc, fault)?;
-            return Ok((text, Status::Refused));
+            return Ok((text, Ending::Refused));
         }
         Err(CertStop::NoMemory) => return Err(NoMemory),
     };
     match check(alloc, &certificate)? {
         Verdict::Yes => {
             let text = yes_lines(alloc, &certificate)?;
-            Ok((text, Status::Done))
+            Ok((text, Ending::Done))
         }
         Verdict::No { condition, index } => {
             let text = failure_line(alloc, condition, index)?;
-            Ok((text, Status::Denied))
+            Ok((text, Ending::Denied))
         }
     }
 }

@@ -1,11 +1,13 @@
-//! The answer to the bytes of a system whose laws are tested: a text and a status, before anything is written.
+//! The answer to the bytes of a system whose laws are tested: a text and how it ends.
 
 ghost use Rattle.std.specs.Prelude.{◌≡◌, ◌<◌, ◌-◌, ◌^◌, length, IfOk};
 ghost use Rattle.rinv_defs.specs.SystemForm.{IsSystem};
-ghost use Rattle.rinv_app.specs.LawAnswers.{IsLawsAnswer, IsTested, budget_of};
+ghost use Rattle.rinv_answers.specs.Budgets.{budget_of, IsLimited};
+ghost use Rattle.rinv_answers.specs.Commands.Laws.{IsLawsAnswer, IsTested};
 
-use crate::law_lines::{degrees_line, fault_line, halted_line, hold_line, refused_line};
-use crate::status::Status;
+use crate::ending::Ending;
+use crate::incomplete::{Cause, Phase, cause_of, incomplete_line};
+use crate::law_lines::{fault_line, hold_line, refused_line};
 use rinv_buch::Stop;
 use rinv_div::Budget;
 use rinv_laws::{LawStop, group_basis, test_laws};
@@ -13,8 +15,8 @@ use rinv_system::{SystemStop, read_system};
 use rinv_text::System;
 use std::alloc::{AllocError as NoMemory, Global};
 
-/// What is printed for the bytes of a system, and the status.
-pub(crate) fn laws_of(alloc: Global, bytes: &[u8]) -> Result<(Vec<u8>, Status), NoMemory>
+/// What is printed for the bytes of a system, and how that ends.
+pub(crate) fn answer(alloc: Global, bytes: &[u8]) -> Result<(Vec<u8>, Ending), NoMemory>
     requires { length bytes.now < 2 ^ 32 - 1 }
     ensures { IfOk result (λ a. IsLawsAnswer bytes.now a.0.items a.1) }
 {
@@ -22,7 +24,7 @@ pub(crate) fn laws_of(alloc: Global, bytes: &[u8]) -> Result<(Vec<u8>, Status), 
         Ok(system) => system,
         Err(SystemStop::Refused(refused)) => {
             let text = refused_line(alloc, refused)?;
-            return Ok((text, Status::Refused));
+            return Ok((text, Ending::Refused));
         }
         Err(SystemStop::NoMemory) => return Err(NoMemory),
     };
@@ -31,31 +33,33 @@ pub(crate) fn laws_of(alloc: Global, bytes: &[u8]) -> Result<(Vec<u8>, Status), 
 }
 
 // What the test of the system's laws answers.
-fn tested(alloc: Global, system: &System) -> Result<(Vec<u8>, Status), NoMemory>
-    requires { IsSystem system.now.system }
+fn tested(alloc: Global, system: &System) -> Result<(Vec<u8>, Ending), NoMemory>
+    requires system { IsSystem system.now.system }
+    requires limits { IsLimited system.now }
     ensures { IfOk result (λ a. IsTested system.now a.0.items a.1) }
 {
     let mut budget = budget_of(system);
     let group = match group_basis(alloc, system, &mut budget) {
         Ok(group) => group,
         Err(Stop::Incomplete(halt)) => {
-            let text = halted_line(alloc, system, &halt.why)?;
-            return Ok((text, Status::Incomplete));
+            let cause = cause_of(system, &halt.why);
+            let text = incomplete_line(alloc, Phase::Group, cause)?;
+            return Ok((text, Ending::Incomplete));
         }
         Err(Stop::NoMemory) => return Err(NoMemory),
     };
     match test_laws(alloc, system, &group) {
         Ok(_quotients) => {
             let text = hold_line(alloc)?;
-            Ok((text, Status::Done))
+            Ok((text, Ending::Done))
         }
         Err(LawStop::Fault(fault)) => {
             let text = fault_line(alloc, system, &fault)?;
-            Ok((text, Status::Denied))
+            Ok((text, Ending::Denied))
         }
         Err(LawStop::Degree { left, right }) => {
-            let text = degrees_line(alloc, left, right)?;
-            Ok((text, Status::Incomplete))
+            let text = incomplete_line(alloc, Phase::Laws, Cause::Degree(left, right))?;
+            Ok((text, Ending::Incomplete))
         }
         Err(LawStop::NoMemory) => Err(NoMemory),
     }

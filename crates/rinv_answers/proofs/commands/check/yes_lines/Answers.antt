@@ -1,11 +1,11 @@
 use Rattle.std.proofs.Common.{◌≡◌, ◌∙◌, ◌++◌, [], List, ℕ, ap, sym, arith, length, codes}
 use Rattle.rinv_defs.specs.Names.{are_names}
-use Rattle.rinv_app.proofs.Accepted.{space_names-of_format}
+use Rattle.rinv_answers.proofs.Accepted.{space_names-of_format}
 use Rattle.rinv_defs.specs.System.{System}
 use Rattle.rinv_defs.specs.Invariant.{Fraction}
 use Rattle.rinv_defs.specs.Certificate.{Certificate, Kind, invariance}
 use Rattle.rinv_defs.specs.Text.{fraction_lines, kind_text, yes_text}
-use Rattle.rinv_app.proofs.verdict.yes_lines.Goals as goal
+use Rattle.rinv_answers.proofs.commands.check.yes_lines.Goals as goal
 
 -- the whole answer, piece by piece
 yes-of : (c : Certificate) (p : ℕ) (names : List (List ℕ)) (fs : List Fraction) (empty out out' out'' : List ℕ) → c.kind ≡ invariance → p ≡ c.system.p → names ≡ c.system.space → fs ≡ c.fractions
