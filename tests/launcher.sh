@@ -41,7 +41,13 @@ if [ "${FAILS:-}" = "$crate" ]; then
   exit 1
 fi
 if [ "$1" = run ]; then
-  printf '#!/usr/bin/env bash\necho "words: $*"\ncat\nexit 3\n' >out/rinv_app
+  cat >out/rinv_app <<'PROGRAM'
+#!/usr/bin/env bash
+[ "$1" = long ] && exec head -c 100000 /dev/zero
+echo "words: $*"
+cat
+exit 3
+PROGRAM
   chmod +x out/rinv_app
 fi
 echo "end $crate" >>"$NOTES"
@@ -98,6 +104,9 @@ check 'crates of tests are not proved' test -z "$(grep _tests "$NOTES")"
 run check more
 check 'a second call runs the program alone' told 'check more'
 check 'and says nothing' is_quiet
+
+(ulimit -f 8 && "$work/tree/rinv" long >"$work/long" 2>/dev/null)
+check 'past a limit on the size of files a write fails, and no signal comes' test $? = 1
 
 touch "$work/tree/crates/rinv_serve_tests/src/lib.rt"
 run laws
