@@ -51,7 +51,7 @@ PROGRAM
   chmod +x out/rinv_app
 fi
 echo "end $crate" >>"$NOTES"
-echo 'logic=proved functions=1'
+[ "$1" = lib ] || exit 2
 FAKE
 chmod +x "$work/bin/rt"
 export NOTES=$work/notes PATH=$work/bin:$PATH RINV_JOBS=3
