@@ -1,0 +1,99 @@
+//! The answer to the bytes of a certificate: a text and how it ends.
+
+ghost use Rattle.std.specs.Prelude.{◌≡◌, ◌<◌, ◌^◌, [], length, true, IfOk, None, codes};
+ghost use Rattle.rinv_defs.specs.Names.{are_names};
+ghost use Rattle.rinv_defs.specs.Format.{format_failure};
+ghost use Rattle.rinv_defs.specs.Text.{yes_text, no_text, refused_text};
+ghost use Rattle.rinv_cert.specs.Faults.{part_word};
+ghost use Rattle.rinv_answers.specs.Commands.Check.{IsCheckAnswer};
+
+use crate::ending::Ending;
+use crate::fraction::write_lines;
+use rinv_cert::{CertFault, CertStop, Certificate, Name, from_json};
+use rinv_check::{FormatStop, Verdict, check, stored};
+use rinv_text::{Names, TextStop};
+use std::alloc::{AllocError as NoMemory, Global};
+
+/// What is printed for the bytes of a certificate, and how that ends.
+pub(crate) fn answer(alloc: Global, bytes: &[u8]) -> Result<(Vec<u8>, Ending), NoMemory>
+    ensures { IfOk result (λ a. IsCheckAnswer bytes.now a.0.items a.1) }
+{
+    let certificate = match from_json(alloc, bytes) {
+        Ok(certificate) => certificate,
+        Err(CertStop::Fault(fault)) => {
+            let text = fault_line(alloc, fault)?;
+            return Ok((text, Ending::Refused));
+        }
+        Err(CertStop::NoMemory) => return Err(NoMemory),
+    };
+    match check(alloc, &certificate)? {
+        Verdict::Yes => {
+            let text = yes_lines(alloc, &certificate)?;
+            Ok((text, Ending::Done))
+        }
+        Verdict::No { condition, index } => {
+            let text = failure_line(alloc, condition, index)?;
+            Ok((text, Ending::Denied))
+        }
+    }
+}
+
+// The line of bytes that are no certificate.
+fn fault_line(alloc: Global, fault: CertFault) -> Result<Vec<u8>, NoMemory>
+    ensures { IfOk result (λ v. v.items ≡ refused_text (part_word fault.part) fault.index) }
+{
+    let CertFault { part, index } = fault;
+    let line = format!(in alloc; "refused {part} {index}\n")?;
+    Ok(line.into_bytes())
+}
+
+// The line of a condition that fails.
+fn failure_line(alloc: Global, condition: u32, index: u32) -> Result<Vec<u8>, NoMemory>
+    ensures { IfOk result (λ v. v.items ≡ no_text (condition, index)) }
+{
+    let line = format!(in alloc; "no C{condition} {index}\n")?;
+    Ok(line.into_bytes())
+}
+
+// The lines of an accepted certificate.
+fn yes_lines(alloc: Global, certificate: &Certificate) -> Result<Vec<u8>, NoMemory>
+    requires { format_failure certificate.now ≡ None }
+    ensures { IfOk result (λ v. v.items ≡ yes_text certificate.now) }
+{
+    let parts = match stored(alloc, certificate) {
+        Ok(parts) => parts,
+        Err(FormatStop::NoMemory) => return Err(NoMemory),
+        Err(FormatStop::Part(_)) => unreachable!(),
+    };
+    let system = &certificate.system;
+    let names = names_of(alloc, system.space.as_slice())?;
+    let mut out = Vec::new(alloc);
+    out.extend_from_slice(b"yes\n")?;
+    write_lines(
+        alloc,
+        parts.field,
+        &names,
+        parts.fractions.as_slice(),
+        &mut out,
+    )?;
+    out.extend_from_slice(b"invariant\n")?;
+    Ok(out)
+}
+
+// The names of a system's variables, as a list of names.
+fn names_of(alloc: Global, names: &[Name]) -> Result<Names, NoMemory>
+    requires form { are_names [] names.now ≡ true }
+    requires few { length names.now < 2 ^ 32 }
+    ensures { IfOk result (λ n. n ≡ names.now) }
+{
+    let mut words = Vec::new(alloc);
+    for name in names {
+        let word = String::from_str(alloc, name.as_str())?;
+        words.push(word)?;
+    }
+    match Names::from_words(alloc, &words) {
+        Ok(names) => Ok(names),
+        Err(TextStop::NoMemory) => Err(NoMemory),
+        Err(TextStop::Fault(_)) => unreachable!(),
+    }
+}

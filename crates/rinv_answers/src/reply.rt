@@ -1,0 +1,20 @@
+//! The answer of a command to bytes, in one line a command.
+
+ghost use Rattle.std.specs.Prelude.{◌<◌, ◌-◌, ◌^◌, length, IfOk};
+ghost use Rattle.rinv_answers.specs.Answers.{IsAnswer};
+
+use crate::command::Command;
+use crate::commands::{check, laws};
+use crate::ending::Ending;
+use std::alloc::{AllocError as NoMemory, Global};
+
+/// The text that the command answers to these bytes, and how it ends.
+pub fn answer(alloc: Global, command: Command, bytes: &[u8]) -> Result<(Vec<u8>, Ending), NoMemory>
+    requires { length bytes.now < 2 ^ 32 - 1 }
+    ensures { IfOk result (λ a. IsAnswer command bytes.now a.0.items a.1) }
+{
+    match command {
+        Command::Check => check::answer(alloc, bytes),
+        Command::Laws => laws::answer(alloc, bytes),
+    }
+}

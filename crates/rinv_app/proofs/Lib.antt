@@ -1,5 +1,0 @@
-pub mod Lines
-pub mod Runs
-pub mod Accepted
-pub mod LawVariables
-pub mod LawAnswered
