@@ -17,11 +17,15 @@ module _ {E : Type 0} (o : RingOps E) where
   abbrev pub SumMeets : Fraction E → Fraction E → ℕ → ℕ → Type 0
   SumMeets f g x y = IsFalse (same o f.1 g.1) × CrossedMeets f g x y
 
+  -- one that makes their product does
+  abbrev pub ProductMeets : Fraction E → Fraction E → ℕ → ℕ → Type 0
+  ProductMeets f g x y = MonomialsMeet o f.0 g.0 x y ⊎ MonomialsMeet o f.1 g.1 x y
+
   -- an operation on n/d and m/e meets these degrees in a product that it makes: of parts of the two, as its formula multiplies them
   abbrev pub fractions_meet : RingOp → Fraction E → Fraction E → ℕ → ℕ → Type 0
   fractions_meet adds f g x y = SumMeets f g x y
   fractions_meet subtracts f g x y = SumMeets f g x y
-  fractions_meet multiplies f g x y = MonomialsMeet o f.0 g.0 x y ⊎ MonomialsMeet o f.1 g.1 x y
+  fractions_meet multiplies f g x y = ProductMeets f g x y
   fractions_meet compares f g x y = MonomialsMeet o f.0 g.1 x y ⊎ MonomialsMeet o g.0 f.1 x y
 
 -- where one of these products is crossed, the degrees add up to more than the limit

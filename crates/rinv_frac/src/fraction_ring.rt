@@ -1,22 +1,23 @@
 //! The field of fractions of the polynomials in some variables.
 
-ghost use Rattle.std.specs.Prelude.{◌≡◌, ◌≤◌, ◌+◌, ◌↔◌, ℕ, false, nat_lt, IsTrue, IsNone, IfOk, IfErr, IfSome};
+ghost use Rattle.std.specs.Prelude.{◌≡◌, ◌≤◌, ◌+◌, ◌↔◌, ℕ, [], false, IsTrue, IsNone, IfOk, IfErr, IfSome};
 ghost use Rattle.rinv_algebra.specs.Ring.{IsSame};
 ghost use Rattle.rinv_algebra.specs.Residue.{residue_ops};
-ghost use Rattle.rinv_algebra.specs.Polynomial.{is_zero};
-ghost use Rattle.rinv_algebra.specs.Normal.{IsNormal};
-ghost use Rattle.rinv_algebra.specs.Fraction.{fraction_ops};
+ghost use Rattle.rinv_algebra.specs.Polynomial.{constant, is_zero};
+ghost use Rattle.rinv_algebra.specs.Fraction.{over_one, fraction_ops};
 ghost use Rattle.rinv_algebra.proofs.ResidueLaws.{residue_laws};
 ghost use Rattle.rinv_algebra.proofs.ResidueField.{residue_field_laws};
 ghost use Rattle.rinv_theory.proofs.Fields.{fraction_laws, fraction_field};
 ghost use Rattle.rinv_ring.specs.Operation.{adds, subtracts, multiplies, compares};
 ghost use Rattle.rinv_ring.specs.Fault.{DegreesMeet};
-ghost use Rattle.rinv_frac.specs.Fractions.{is_stored, IsStored, height};
+ghost use Rattle.rinv_frac.specs.Fractions.{IsPart, is_stored, IsStored, height};
+ghost use Rattle.rinv_frac.specs.Cancelling.{IsSamePair};
 ghost use Rattle.rinv_frac.specs.Arithmetic.{IsSum, IsDifference, IsProduct, IsInverse};
 ghost use Rattle.rinv_frac.specs.Faults.{fractions_meet, fractions_over};
 
 use crate::fraction::Frac;
-use crate::operations::uncancelled_sum;
+use crate::parts::{are_same, over_one, times};
+use crate::uncancelled::{Joining, turned_over, uncancelled_product, uncancelled_sum};
 use rinv_poly::{KPoly, PolyRing};
 use rinv_ring::{Field, Gf, NoMemory, Ring, RingFault};
 use std::alloc::Global;
@@ -44,8 +45,8 @@ impl FracRing {
 
     /// The fraction with these parts, not cancelled; None exactly where the denominator is zero.
     pub fn fraction(&self, num: KPoly, den: KPoly) -> Result<Option<Frac>, NoMemory>
-        requires numerator { IsNormal (residue_ops self.now.base.coeffs) (λ c. nat_lt c self.now.base.coeffs) self.now.base.vars num }
-        requires denominator { IsNormal (residue_ops self.now.base.coeffs) (λ c. nat_lt c self.now.base.coeffs) self.now.base.vars den }
+        requires numerator { IsPart self.now.base.coeffs self.now.base.vars num }
+        requires denominator { IsPart self.now.base.coeffs self.now.base.vars den }
         ensures none { IfOk result (λ o. IsNone o ↔ IsTrue (is_zero (residue_ops self.now.base.coeffs) den)) }
         ensures parts { IfOk result (λ o. IfSome o (λ f. f ≡ (num, den))) }
         ensures element { IfOk result (λ o. IfSome o (IsStored self.now.base.coeffs self.now.base.vars)) }
@@ -54,6 +55,16 @@ impl FracRing {
             return Ok(None);
         }
         Ok(Some(Frac { num, den }))
+    }
+
+    /// The polynomial over one.
+    pub fn over_one(&self, alloc: Global, num: KPoly) -> Result<Frac, NoMemory>
+        requires { IsPart self.now.base.coeffs self.now.base.vars num }
+        ensures element { IfOk result (IsStored self.now.base.coeffs self.now.base.vars) }
+        ensures value { IfOk result (λ r. IsSamePair (residue_ops self.now.base.coeffs) r (over_one (residue_ops self.now.base.coeffs) num)) }
+    {
+        let fraction = over_one(&self.base, alloc, num)?;
+        Ok(fraction)
     }
 
     /// The numerator.
@@ -84,12 +95,24 @@ impl Ring for FracRing {
 
     ghost laws = { λ s. fraction_laws (residue_ops s.base.coeffs) (residue_laws s.base.coeffs) (residue_field_laws s.base.coeffs) };
 
-    fn zero(&self, alloc: Global) -> Result<Frac, NoMemory> {
-        Err(NoMemory)
+    fn zero(&self, alloc: Global) -> Result<Frac, NoMemory>
+        ensures element { IfOk result (IsStored self.now.base.coeffs self.now.base.vars) }
+        ensures value { IfOk result (λ r. IsSame (fraction_ops (residue_ops self.now.base.coeffs)) r (fraction_ops (residue_ops self.now.base.coeffs)).zero) }
+        ensures made { IfOk result (λ r. IsSamePair (residue_ops self.now.base.coeffs) r (over_one (residue_ops self.now.base.coeffs) [])) }
+    {
+        let num = self.base.zero(alloc)?;
+        let zero = over_one(&self.base, alloc, num)?;
+        Ok(zero)
     }
 
-    fn one(&self, alloc: Global) -> Result<Frac, NoMemory> {
-        Err(NoMemory)
+    fn one(&self, alloc: Global) -> Result<Frac, NoMemory>
+        ensures element { IfOk result (IsStored self.now.base.coeffs self.now.base.vars) }
+        ensures value { IfOk result (λ r. IsSame (fraction_ops (residue_ops self.now.base.coeffs)) r (fraction_ops (residue_ops self.now.base.coeffs)).one) }
+        ensures made { IfOk result (λ r. IsSamePair (residue_ops self.now.base.coeffs) r (over_one (residue_ops self.now.base.coeffs) (constant (residue_ops self.now.base.coeffs) 1))) }
+    {
+        let num = self.base.one(alloc)?;
+        let one = over_one(&self.base, alloc, num)?;
+        Ok(one)
     }
 
     fn add(&self, alloc: Global, a: &Frac, b: &Frac) -> Result<Frac, RingFault>
@@ -101,7 +124,7 @@ impl Ring for FracRing {
         ensures made { IfOk result (IsSum (residue_ops self.now.base.coeffs) a.now b.now) }
         ensures degree { IfErr result (DegreesMeet (fractions_meet (residue_ops self.now.base.coeffs) adds a.now b.now)) }
     {
-        let sum = uncancelled_sum(&self.base, alloc, a, b)?;
+        let sum = uncancelled_sum(&self.base, alloc, Joining::Sum, a, b)?;
         let sum = self.cancel(alloc, sum)?;
         Ok(sum)
     }
@@ -115,7 +138,9 @@ impl Ring for FracRing {
         ensures made { IfOk result (IsDifference (residue_ops self.now.base.coeffs) a.now b.now) }
         ensures degree { IfErr result (DegreesMeet (fractions_meet (residue_ops self.now.base.coeffs) subtracts a.now b.now)) }
     {
-        Err(RingFault::NoMemory)
+        let difference = uncancelled_sum(&self.base, alloc, Joining::Difference, a, b)?;
+        let difference = self.cancel(alloc, difference)?;
+        Ok(difference)
     }
 
     fn mul(&self, alloc: Global, a: &Frac, b: &Frac) -> Result<Frac, RingFault>
@@ -127,7 +152,9 @@ impl Ring for FracRing {
         ensures made { IfOk result (IsProduct (residue_ops self.now.base.coeffs) a.now b.now) }
         ensures degree { IfErr result (DegreesMeet (fractions_meet (residue_ops self.now.base.coeffs) multiplies a.now b.now)) }
     {
-        Err(RingFault::NoMemory)
+        let product = uncancelled_product(&self.base, alloc, a, b)?;
+        let product = self.cancel(alloc, product)?;
+        Ok(product)
     }
 
     fn is_zero(&self, a: &Frac) -> bool {
@@ -135,7 +162,10 @@ impl Ring for FracRing {
     }
 
     fn same(&self, alloc: Global, a: &Frac, b: &Frac) -> Result<bool, RingFault> {
-        Err(RingFault::NoMemory)
+        let left = times(&self.base, alloc, &a.num, &b.den)?;
+        let right = times(&self.base, alloc, &b.num, &a.den)?;
+        let same = are_same(&self.base, alloc, &left, &right)?;
+        Ok(same)
     }
 
     fn copy(&self, alloc: Global, a: &Frac) -> Result<Frac, NoMemory> {
@@ -153,7 +183,12 @@ impl Field for FracRing {
         ensures value { IfOk result (λ o. IfSome o (λ b. IsSame (fraction_ops (residue_ops self.now.base.coeffs)) ((fraction_ops (residue_ops self.now.base.coeffs)).mul a.now b) (fraction_ops (residue_ops self.now.base.coeffs)).one)) }
         ensures made { IfOk result (λ o. IfSome o (IsInverse (residue_ops self.now.base.coeffs) a.now)) }
     {
-        Err(NoMemory)
+        if self.is_zero(a) {
+            return Ok(None);
+        }
+        let turned = turned_over(&self.base, alloc, a)?;
+        let inverse = self.cancel(alloc, turned)?;
+        Ok(Some(inverse))
     }
 
     ghost field_laws = { λ s. fraction_field (residue_ops s.base.coeffs) (residue_laws s.base.coeffs) (residue_field_laws s.base.coeffs) };
