@@ -7,3 +7,5 @@ mod cancelling;
 mod operations;
 #[cfg(test)]
 mod tables;
+#[cfg(test)]
+mod values;

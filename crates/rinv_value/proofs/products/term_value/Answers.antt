@@ -35,9 +35,9 @@ values-preserved c =
 
 pub returns-clause-made : goal.returns-clause-made
 returns-clause-made c =
-    let at = c.args.at.now in
+    let points = c.args.at.now in
     let m = c.args.mono.now in
     let past : length m ≤ c.values.k = omega (arith, c.values-test.false, c.vars-k-end.ensures) in
-    let past' : length at ≤ c.values.k = omega (arith, past, c.requires.many) in
-    let whole : factors (take c.values.k at) (take c.values.k m) ≡ factors at m = ap (λ xs. factors xs (take c.values.k m)) (take_all c.values.k at past') ∙ ap (factors at) (take_all c.values.k m past) in
+    let past' : length points ≤ c.values.k = omega (arith, past, c.requires.many) in
+    let whole : factors (take c.values.k points) (take c.values.k m) ≡ factors points m = ap (λ xs. factors xs (take c.values.k m)) (take_all c.values.k points past') ∙ ap (factors points) (take_all c.values.k m past) in
     rw whole at c.values.invariant.made
