@@ -75,13 +75,13 @@ fn computed(
     requires left { IsStored field.now.base.coeffs field.now.base.vars a.now }
     requires right { IsStored field.now.base.coeffs field.now.base.vars b.now }
 {
-    let result = match operation {
+    let found = match operation {
         Operation::Sum => field.add(alloc, a, b)?,
         Operation::Difference => field.sub(alloc, a, b)?,
         Operation::Product => field.mul(alloc, a, b)?,
         Operation::Inverse => return Ok(field.inverse(alloc, a)?),
     };
-    Ok(Some(result))
+    Ok(Some(found))
 }
 
 // Whether the operation on the first two answers the third.
@@ -91,7 +91,7 @@ fn answers(
     operation: Operation,
     left: Parts,
     right: Parts,
-    result: Parts,
+    wanted: Parts,
 ) -> Result<bool, RingFault>
     requires vars { field.now.base.vars ≡ 2 }
 {
@@ -102,7 +102,7 @@ fn answers(
         return Ok(false);
     };
     match computed(alloc, field, operation, &a, &b)? {
-        Some(found) => Ok(has_parts(field, &found, result)),
+        Some(found) => Ok(has_parts(field, &found, wanted)),
         None => Ok(false),
     }
 }
@@ -111,9 +111,9 @@ fn answers(
 fn computes_with_fractions(rt: HostRuntime) -> Result<(), Fail> {
     let alloc = rt.alloc();
     let field = FracRing::new(PolyRing::new(Gf::new(7)?, 2));
-    for (operation, left, right, result) in RESULTS {
+    for (operation, left, right, wanted) in RESULTS {
         assert!(rt;
-            answers(alloc, &field, operation, left, right, result)?,
+            answers(alloc, &field, operation, left, right, wanted)?,
             "{operation:?}"
         );
     }
