@@ -33,7 +33,7 @@ use Rattle.rinv_groebner.proofs.Remainders.{AreSpread, IsRemainder, remainder}
 use Rattle.rinv_poly.specs.Faults.{MultipleMeets}
 use Rattle.rinv_poly.proofs.Forms.{IsNormalTerm, ordered-from_normal}
 use Rattle.rinv_ring.specs.Operation.{RingOp}
-use Rattle.rinv_div.specs.Stops.{Divides, StepsMeet}
+use Rattle.rinv_div.specs.Stops.{StepsMeet}
 use Rattle.rinv_buch.specs.Reducing.{AreLeadsApart, MonicMeets, MakingMeets}
 
 -- where dividing an element taken out by the others meets degrees, making one of it does
@@ -49,11 +49,11 @@ kept-leads_apart o cmp hs i j ii jj differ = go (divides (leading_monomial o cmp
     go false e = refl
     go true e = absurd (kept-apart o cmp hs i j ii jj differ (divides-divisor _ _ e))
 
-module _ {E : Type 0} (o : RingOps E) (cmp : List ℕ → List ℕ → Ordering) (hs others : List (Polynomial E)) (k : ℕ) (f : Polynomial E) (qs : List (Polynomial E)) (rest : Polynomial E) (removed : others ≡ remove hs k) (taken : f ≡ get_or hs k [])
-    (found : (steps : List (Step E)) × Divides o cmp others f qs rest steps) where
+module _ {E : Type 0} (o : RingOps E) (cmp : List ℕ → List ℕ → Ordering) (hs others : List (Polynomial E)) (k : ℕ) (f rest : Polynomial E) (removed : others ≡ remove hs k) (taken : f ≡ get_or hs k [])
+    (found : (steps : List (Step E)) × IsDivision o cmp others f steps rest) where
   -- a division of the element taken out by the others
   pub division-at : (steps : List (Step E)) × IsDivision o cmp (remove hs k) (get_or hs k []) steps rest
-  division-at = (found.0, subst₂ (λ (hs : List (Polynomial E)) (f : Polynomial E). IsDivision o cmp hs f found.0 rest) removed taken found.1.is_division)
+  division-at = (found.0, subst₂ (λ (hs : List (Polynomial E)) (f : Polynomial E). IsDivision o cmp hs f found.0 rest) removed taken found.1)
 
   -- where making monic what it leaves meets degrees, making an element of the one taken out does
   module _ (is_element : E → Bool) (too_high : RingOp → E → E → ℕ → ℕ → Type 0) (v : ℕ) where

@@ -16,7 +16,7 @@ use Rattle.rinv_ring.specs.declared.fault.RingFault.TheVariants.{Degree as Degre
 use Rattle.rinv_poly.proofs.Gather.{same-then}
 use Rattle.rinv_div.specs.Budgets.{Spends}
 use Rattle.rinv_div.specs.Divisors.{AreDivisors}
-use Rattle.rinv_div.specs.Stops.{DividesBy, Leaves, RunsOut, MeetsDegree, StopsBy}
+use Rattle.rinv_div.specs.Stops.{Reduces, Leaves, RunsOut, MeetsDegree, StopsBy}
 use Rattle.rinv_div.specs.declared.budget.Budget.{Budget}
 use Rattle.rinv_div.specs.declared.divisors.Divisor.{Divisor}
 use Rattle.rinv_div.specs.declared.stop.DivStop.{DivStop}
@@ -58,11 +58,11 @@ module _ {E : Type 0} (o : RingOps E) (cmp : List ℕ → List ℕ → Ordering)
 
     module _ (l : RingLaws o) (s : Polynomial E) (same : IsSame (poly_ops o) s (s_at o cmp hs i j)) where
       -- the division leaves the rest of the pair
-      pub leaves-rest : (own spent : Budget) → own.steps_spent ≡ 0 → (qs : List (Polynomial E)) (rest : Polynomial E) → DividesBy o cmp hs s own spent qs rest → LeavesRest o cmp hs i j spent.steps_spent rest
-      leaves-rest own spent fresh qs rest d = record {
+      pub leaves-rest : (own spent : Budget) → own.steps_spent ≡ 0 → (rest : Polynomial E) → Reduces o cmp hs s own spent rest → LeavesRest o cmp hs i j spent.steps_spent rest
+      leaves-rest own spent fresh rest d = record {
         not_coprime = off;
         steps = d.steps;
-        division = record { by_steps = steps-same l hs s (s_at o cmp hs i j) same d.steps rest d.divides.is_division.by_steps; irreducible = d.divides.is_division.irreducible };
+        division = record { by_steps = steps-same l hs s (s_at o cmp hs i j) same d.steps rest d.is_division.by_steps; irreducible = d.is_division.irreducible };
         counted = own-count (length d.steps) own spent fresh d.spent;
       }
 

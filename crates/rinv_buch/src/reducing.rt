@@ -15,7 +15,7 @@ ghost use Rattle.rinv_buch.specs.Reducing.{MakingMeets, MonicMeets, ReducingMeet
 use crate::elements::Elements;
 use crate::kinds::Basis;
 use crate::s_polynomial::leading_term;
-use rinv_div::{Divisors, divide_wholly};
+use rinv_div::{Divisors, remainder_wholly};
 use rinv_mono::{Mono, MonoOrder};
 use rinv_poly::{Poly, PolyRing};
 use rinv_ring::{Field, NoMemory, Ring, RingFault};
@@ -135,10 +135,10 @@ fn made_at<F: Field, O: MonoOrder>(
     let element = elements.polys.remove(place);
     let divisor = elements.divisors.remove(place);
     let (polys, divisors) = (&elements.polys, &elements.divisors);
-    let division = divide_wholly(ring, alloc, &element, polys, divisors, order)?;
+    let rest = remainder_wholly(ring, alloc, &element, polys, divisors, order)?;
     elements.polys.insert(place, element)?;
     elements.divisors.insert(place, divisor)?;
-    let made = monic(ring, alloc, &division.rest, order)?;
+    let made = monic(ring, alloc, &rest, order)?;
     Ok(made)
 }
 

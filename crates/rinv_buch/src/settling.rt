@@ -15,7 +15,7 @@ ghost use Rattle.rinv_buch.specs.Runs.{Settles, SettlesWith, steps_with, RunsOut
 use crate::elements::Elements;
 use crate::s_polynomial::s_polynomial_of;
 use crate::spending::{count_steps, steps_left};
-use rinv_div::{Budget, DivStop, divide_by};
+use rinv_div::{Budget, DivStop, remainder_by};
 use rinv_mono::MonoOrder;
 use rinv_pairs::{Pair, coprime};
 use rinv_poly::{Poly, PolyRing};
@@ -63,7 +63,7 @@ pub fn settle<F: Field, O: MonoOrder>(
         Ok(s) => s,
         Err(fault) => return Err(before_division(ring, alloc, fault)),
     };
-    let division = divide_by(
+    let rest = remainder_by(
         ring,
         alloc,
         &s,
@@ -73,9 +73,9 @@ pub fn settle<F: Field, O: MonoOrder>(
         &mut own,
     );
     count_steps(budget, own.steps_spent);
-    let division = division?;
+    let rest = rest?;
     Ok(Outcome::Reduced {
-        rest: division.rest,
+        rest,
         steps: own.steps_spent,
     })
 }

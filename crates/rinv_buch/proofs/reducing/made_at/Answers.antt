@@ -9,8 +9,8 @@ use Rattle.rinv_buch.proofs.Makings.{division-at, made-at, rest_remains, dividin
 use Rattle.rinv_buch.proofs.TakenOut.{put-back, divisors-taken, divisors-nonzero, prepared-same}
 use Rattle.rinv_buch.proofs.reducing.made_at.Goals as goal
 
-pub divide_wholly-requires-clause-divisors : goal.divide_wholly-requires-clause-divisors
-divide_wholly-requires-clause-divisors g c =
+pub remainder_wholly-requires-clause-divisors : goal.remainder_wholly-requires-clause-divisors
+remainder_wholly-requires-clause-divisors g c =
     rw (c.deref.ensures.value, c.remove-element.ensures.items, c.remove-divisor.ensures.left)
     (divisors-taken (g.F.Ring.ops c.args.ring.now.coeffs) (g.F.Ring.is_element c.args.ring.now.coeffs) c.args.ring.now.vars (g.O.MonoOrder.cmp c.args.order.now) c.args.elements.now.polys.items c.args.elements.now.divisors.list.items c.args.place c.requires.inside c.requires.prepared.divisors)
 
@@ -24,8 +24,8 @@ monic-requires-clause-nonzero g c =
     let hs = c.args.elements.now.polys.items in
     let order = orders_in cmp (g.O.MonoOrder.fits c.args.order.now) (g.O.MonoOrder.laws c.args.order.now) (g.O.MonoOrder.ties c.args.order.now) v c.requires.suits in
     let taken = get_or_read hs c.args.place c.remove-element.result c.requires.inside c.remove-element.ensures.value [] in
-    let d = division-at o cmp hs c.deref.result.now c.args.place c.remove-element.result c.in_ok-division.division.quotients.items c.in_ok-division.division.rest (c.deref.ensures.value ∙ c.remove-element.ensures.items) taken c.in_ok-division.ensures.division in
-    (rest_remains o l cmp e v order hs c.requires.prepared.normal (divisors-nonzero o e v cmp hs c.args.elements.now.divisors.list.items c.requires.prepared.divisors) c.requires.apart c.args.place c.requires.inside d.0 c.in_ok-division.division.rest d.1).nonzero
+    let d = division-at o cmp hs c.deref.result.now c.args.place c.remove-element.result c.in_ok-rest.rest (c.deref.ensures.value ∙ c.remove-element.ensures.items) taken c.in_ok-rest.ensures.division in
+    (rest_remains o l cmp e v order hs c.requires.prepared.normal (divisors-nonzero o e v cmp hs c.args.elements.now.divisors.list.items c.requires.prepared.divisors) c.requires.apart c.args.place c.requires.inside d.0 c.in_ok-rest.rest d.1).nonzero
 
 pub returns-clause-prepared : goal.returns-clause-prepared
 returns-clause-prepared g c =
@@ -40,11 +40,11 @@ returns-clause-same g c = put-back c.args.elements.now.polys.items c.remove-elem
 pub returns-clause-made : goal.returns-clause-made
 returns-clause-made g c =
     let hs = c.args.elements.now.polys.items in
-    made-at (g.F.Ring.ops c.args.ring.now.coeffs) (g.O.MonoOrder.cmp c.args.order.now) hs c.deref.result.now c.args.place c.remove-element.result c.in_ok-division.division.quotients.items c.in_ok-division.division.rest (c.deref.ensures.value ∙ c.remove-element.ensures.items)
-    (get_or_read hs c.args.place c.remove-element.result c.requires.inside c.remove-element.ensures.value []) c.in_ok-division.ensures.division c.in_ok-made.made c.in_ok-made.ensures.monic
+    made-at (g.F.Ring.ops c.args.ring.now.coeffs) (g.O.MonoOrder.cmp c.args.order.now) hs c.deref.result.now c.args.place c.remove-element.result c.in_ok-rest.rest (c.deref.ensures.value ∙ c.remove-element.ensures.items)
+    (get_or_read hs c.args.place c.remove-element.result c.requires.inside c.remove-element.ensures.value []) c.in_ok-rest.ensures.division c.in_ok-made.made c.in_ok-made.ensures.monic
 
-pub returns-in_err-division-clause-degree : goal.returns-in_err-division-clause-degree
-returns-in_err-division-clause-degree g c =
+pub returns-in_err-rest-clause-degree : goal.returns-in_err-rest-clause-degree
+returns-in_err-rest-clause-degree g c =
     let o = g.F.Ring.ops c.args.ring.now.coeffs in
     let e = g.F.Ring.is_element c.args.ring.now.coeffs in
     let high = g.F.Ring.too_high c.args.ring.now.coeffs in
@@ -54,7 +54,7 @@ returns-in_err-division-clause-degree g c =
     let taken = get_or_read hs c.args.place c.remove-element.result c.requires.inside c.remove-element.ensures.value [] in
     let p = err_from_is_err_and c.from_residual.result c.from_residual.ensures.1 in
     rw (p.1, p.2) (meet-weaker (StepsMeet o cmp c.deref.result.now c.remove-element.result e high) (MakingMeets o e high v cmp hs c.args.place)
-    (dividing-meets o e high v cmp hs c.deref.result.now c.args.place c.remove-element.result (c.deref.ensures.value ∙ c.remove-element.ensures.items) taken) c.in_err-division.field-0.0 c.in_err-division.ensures.degree)
+    (dividing-meets o e high v cmp hs c.deref.result.now c.args.place c.remove-element.result (c.deref.ensures.value ∙ c.remove-element.ensures.items) taken) c.in_err-rest.field-0.0 c.in_err-rest.ensures.degree)
 
 pub returns-in_err-made-clause-degree : goal.returns-in_err-made-clause-degree
 returns-in_err-made-clause-degree g c =
@@ -66,6 +66,6 @@ returns-in_err-made-clause-degree g c =
     let hs = c.args.elements.now.polys.items in
     let taken = get_or_read hs c.args.place c.remove-element.result c.requires.inside c.remove-element.ensures.value [] in
     let p = err_from_is_err_and c.from_residual-in_err-made.result c.from_residual-in_err-made.ensures.1 in
-    rw (p.1, p.2) (meet-weaker (MonicMeets o e high v cmp c.in_ok-division.division.rest) (MakingMeets o e high v cmp hs c.args.place)
-    (monic-meets o cmp hs c.deref.result.now c.args.place c.remove-element.result c.in_ok-division.division.quotients.items c.in_ok-division.division.rest (c.deref.ensures.value ∙ c.remove-element.ensures.items) taken c.in_ok-division.ensures.division e high v c.in_ok-division.ensures.rest)
+    rw (p.1, p.2) (meet-weaker (MonicMeets o e high v cmp c.in_ok-rest.rest) (MakingMeets o e high v cmp hs c.args.place)
+    (monic-meets o cmp hs c.deref.result.now c.args.place c.remove-element.result c.in_ok-rest.rest (c.deref.ensures.value ∙ c.remove-element.ensures.items) taken c.in_ok-rest.ensures.division e high v c.in_ok-rest.ensures.rest)
     c.in_err-made.field-0.0 c.in_err-made.ensures.degree)

@@ -35,8 +35,8 @@ returns-in-Err-clause-stop g c =
     stops-idle o cmp hs i j off e high v c.args.budget.now c.in-Err.fault c.before_division.result c.before_division.ensures.fault c.before_division.ensures.idle
     (subst₂ (λ (x y : Polynomial _). DegreesMeet (SPolynomialMeets o e high v cmp x y) c.in-Err.fault) f h c.in-Err.ensures.degree) c.steps_left-own.ensures.none_spent
 
-pub returns-in_err-division-clause-stop : goal.returns-in_err-division-clause-stop
-returns-in_err-division-clause-stop g c =
+pub returns-in_err-rest-clause-stop : goal.returns-in_err-rest-clause-stop
+returns-in_err-rest-clause-stop g c =
     let o = g.F.Ring.ops c.args.ring.now.coeffs in
     let cmp = g.O.MonoOrder.cmp c.args.order.now in
     let hs = c.args.elements.now.polys.items in
@@ -47,17 +47,17 @@ returns-in_err-division-clause-stop g c =
     let h = element-at hs j c.index-4.result.now c.requires.inside c.index-4.ensures in
     let high = g.F.Ring.too_high c.args.ring.now.coeffs in
     let same = subst₂ (λ (x y : Polynomial _). IsSame (poly_ops o) c.in-Ok.s (s_polynomial o cmp x y)) f h c.in-Ok.ensures.value in
-    let own : IsOwn c.args.budget.now c.steps_left-own.result c.divide_by-division.new.steps c.count_steps.new.budget = record {
+    let own : IsOwn c.args.budget.now c.steps_left-own.result c.remainder_by-rest.new.steps c.count_steps.new.budget = record {
       kept = c.requires.within.steps;
       limit = c.steps_left-own.ensures.limit;
       steps = c.steps_left-own.ensures.steps;
       fresh = c.steps_left-own.ensures.fresh;
       endless = c.steps_left-own.ensures.endless;
-      others = c.divide_by-division.ensures.budget;
+      others = c.remainder_by-rest.ensures.budget;
       counted = c.count_steps.ensures;
     } in
     let p = err_from_is_err_and c.from_residual.result c.from_residual.ensures.1 in
-    rw (p.1, p.2) (stops-dividing o cmp hs i j off (g.F.Ring.laws c.args.ring.now.coeffs) c.in-Ok.s same c.args.budget.now c.steps_left-own.result c.divide_by-division.new.steps c.count_steps.new.budget own (g.F.Ring.is_element c.args.ring.now.coeffs) high c.args.ring.now.vars c.in_err-division.field-0.0 (rw c.deref.ensures.value at c.in_err-division.ensures.stop))
+    rw (p.1, p.2) (stops-dividing o cmp hs i j off (g.F.Ring.laws c.args.ring.now.coeffs) c.in-Ok.s same c.args.budget.now c.steps_left-own.result c.remainder_by-rest.new.steps c.count_steps.new.budget own (g.F.Ring.is_element c.args.ring.now.coeffs) high c.args.ring.now.vars c.in_err-rest.field-0.0 (rw c.deref.ensures.value at c.in_err-rest.ensures.stop))
 
 pub returns-clause-settles : goal.returns-clause-settles
 returns-clause-settles g c =
@@ -70,4 +70,4 @@ returns-clause-settles g c =
     let f = element-at hs i c.index-3.result.now (omega (arith, c.requires.ascending, c.requires.inside)) c.index-3.ensures in
     let h = element-at hs j c.index-4.result.now c.requires.inside c.index-4.ensures in
     let same = subst₂ (λ (x y : Polynomial _). IsSame (poly_ops o) c.in-Ok.s (s_polynomial o cmp x y)) f h c.in-Ok.ensures.value in
-    leaves-rest o cmp hs i j off (g.F.Ring.laws c.args.ring.now.coeffs) c.in-Ok.s same c.steps_left-own.result c.divide_by-division.new.steps c.steps_left-own.ensures.fresh c.in_ok-division.division.quotients.items c.in_ok-division.division.rest (rw c.deref.ensures.value at c.in_ok-division.ensures.division)
+    leaves-rest o cmp hs i j off (g.F.Ring.laws c.args.ring.now.coeffs) c.in-Ok.s same c.steps_left-own.result c.remainder_by-rest.new.steps c.steps_left-own.ensures.fresh c.in_ok-rest.rest (rw c.deref.ensures.value at c.in_ok-rest.ensures.division)
