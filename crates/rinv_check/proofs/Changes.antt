@@ -1,13 +1,16 @@
 -- The change of a fraction, product by product.
 --   change-same                     from the four products to the change
 --   fits-moved, fits-left, ..       which of the products does not fit
+--   meets-numerator, ..              over numbers modulo a prime Degree comes only where something does not fit
 --   shown-same, position_from-agree    the condition depends on the coefficients of the ideal alone
-use Rattle.std.proofs.Common.{◌≡◌, ℕ, ◌+◌, Bool, true, false, ◌&&◌, List, [], ◌∷◌, ◌++◌, length, refl, sym, ap, ◌∙◌, inl, inr, ◌<◌, get_or, take, suc}
+use Rattle.std.proofs.Common.{◌≡◌, ℕ, ◌+◌, Bool, true, false, ◌&&◌, List, [], ◌∷◌, ◌++◌, length, refl, sym, ap, ◌∙◌, ◌<◌, get_or, take, suc, arith}
 use Rattle.std.specs.Prelude.{zip, not, Option, Result, Ok, Err, IfOk, All, IsTrue}
 use Rattle.std.specs.List.{position_from, list_all}
 use Rattle.std.proofs.lemmas.List.Elements.{All-nil, All-cons}
 use Rattle.rinv_algebra.proofs.Same.{both}
-use Rattle.rinv_check.specs.Forms.{are_stored}
+use Rattle.std.specs.Prelude.{nat_lt, ◌==◌}
+use Rattle.std.proofs.lemmas.Bool.Decides.{nat_tests}
+use Rattle.rinv_check.specs.Forms.{is_stored, are_stored}
 use Rattle.std.proofs.lemmas.List.{length-replicate}
 use Rattle.rinv_sub.proofs.Sums.{take-at}
 use Rattle.rinv_algebra.specs.Ring.{RingOps, RingLaws, IsSame}
@@ -27,7 +30,9 @@ use Rattle.rinv_ring.specs.declared.fault.RingFault.TheVariants.{Degree, NoMemor
 use Rattle.rinv_defs.specs.System.{System, Poly, group_count}
 use Rattle.rinv_defs.specs.Invariant.{Fraction, change}
 use Rattle.rinv_defs.specs.Conditions.{invariance_is_shown}
-use Rattle.rinv_sub.specs.Refusal.{IsRefused}
+use Rattle.rinv_poly.proofs.Meets.{meet-weaker}
+use Rattle.rinv_sub.specs.Refusal.{SubstitutionMeets, CombinationMeets, never}
+use Rattle.rinv_sub.proofs.Misfits.{residues-misfit, residues-uncombined}
 use Rattle.rinv_check.specs.Setting.{setting, change_fits, AreSame}
 
 -- a test of sameness answers one thing for what is the same on both sides
@@ -145,10 +150,25 @@ pub meets-so : {A B : Type 0} → (A → B) → (e : RingFault) → DegreesMeet 
 meets-so f (Degree x y) a = f a
 meets-so f NoMemory a = tt
 
--- over numbers modulo a prime a computation is refused only where it does not fit
-pub refused-unfit : (fits : Bool) (x y : ℕ) → IsRefused {E = ℕ} (λ _ _ _ _ _. ⊥) fits x y → fits ≡ false
-refused-unfit fits x y (inl r) = r.1
-refused-unfit fits x y (inr c) = absurd c.1.2
+-- ---- over numbers modulo a prime Degree comes only where something does not fit
+
+module _ (p v l : ℕ) (action : List Poly) (n d : Poly) where
+  -- in the substitutions, whatever number w of variables the fraction has
+  pub meets-numerator : (w : ℕ) → IsTrue (is_stored p w n) → (e : RingFault) → DegreesMeet (SubstitutionMeets (residue_ops p) (λ c. nat_lt c p) never v action n) e → DegreesMeet (λ _ _. change_fits p l action n d ≡ false) e
+  meets-numerator w stored e m =
+      meet-weaker (SubstitutionMeets (residue_ops p) (λ c. nat_lt c p) never v action n) (λ _ _. change_fits p l action n d ≡ false)
+      (λ x y h. fits-numerator p l action n d (residues-misfit p v action n w stored x y h).1) e m
+
+  pub meets-denominator : (w : ℕ) → IsTrue (is_stored p w d) → (e : RingFault) → DegreesMeet (SubstitutionMeets (residue_ops p) (λ c. nat_lt c p) never v action d) e → DegreesMeet (λ _ _. change_fits p l action n d ≡ false) e
+  meets-denominator w stored e m =
+      meet-weaker (SubstitutionMeets (residue_ops p) (λ c. nat_lt c p) never v action d) (λ _ _. change_fits p l action n d ≡ false)
+      (λ x y h. fits-denominator p l action n d (residues-misfit p v action d w stored x y h).1) e m
+
+-- in a combination of so many cofactors
+pub meets-combination : (p v w : ℕ) (us fs : List Poly) → IsTrue (are_stored p w (length fs) us) → (x y : ℕ) → CombinationMeets (residue_ops p) (λ c. nat_lt c p) never v us fs x y → combination_fits (residue_ops p) us fs ≡ false
+meets-combination p v w us fs stored x y h =
+    let many : (length us == length fs) ≡ true = (both (length us == length fs) (list_all (is_stored p w) us) stored).0 in
+    (residues-uncombined p v us fs (grind (arith, nat_tests, many)) x y h).1
 
 -- ---- loops
 

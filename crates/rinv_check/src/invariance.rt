@@ -16,7 +16,7 @@ use crate::format::StoredCertificate;
 use rinv_cert::Items;
 use rinv_poly::{KPoly, PolyRing};
 use rinv_ring::{Gf, NoMemory, Ring, RingFault};
-use rinv_sub::{combination, substitute, widened};
+use rinv_sub::{combination, substitute_over_field, widened};
 use std::alloc::Global;
 
 // The rings of the space, and of the group and the space, over one field.
@@ -51,10 +51,11 @@ fn change(
         space,
         whole,
     } = rings;
-    let moved_numerator = substitute(space, alloc, numerator, whole, action)?;
+    // What does not fit here is refused before anything is multiplied.
+    let moved_numerator = substitute_over_field(space, alloc, numerator, whole, action)?;
+    let moved_denominator = substitute_over_field(space, alloc, denominator, whole, action)?;
     let kept_denominator = space.behind(alloc, *group, denominator, whole)?;
     let left = whole.product(alloc, &moved_numerator, &kept_denominator)?;
-    let moved_denominator = substitute(space, alloc, denominator, whole, action)?;
     let kept_numerator = space.behind(alloc, *group, numerator, whole)?;
     let right = whole.product(alloc, &kept_numerator, &moved_denominator)?;
     whole.sub(alloc, &left, &right)
@@ -109,10 +110,7 @@ fn widen_all(
 {
     let mut wide = Vec::new(alloc);
     'ideal: for f in ideal {
-        // Sums of numbers modulo a prime are refused for memory alone.
-        let Ok(g) = widened(from, alloc, f, to) else {
-            return Err(NoMemory);
-        };
+        let g = widened(from, alloc, f, to)?;
         wide.push(g)?;
     }
     Ok(wide)

@@ -69,6 +69,10 @@ const CONDITIONS: &[(&str, &str, &str, u32, u32)] = &[
     ("invariance", COFACTORS, "[[[[1,[9999,0]]]]]", 8, 1),
 ];
 
+// A certificate that asks for x^9999 at x + a + a^2, whose degree is over the limit. To find this by products takes minutes.
+const TOO_HIGH: &str =
+    r#"{"action":[[[1,[2,0]],[1,[1,0]],[1,[0,1]]]],"field":7,"fractions":[[[[1,[9999]]],[[1,[0]]]]],"group":["a"],"ideal":[],"invariance":[[]],"inverse":[[[6,[1]]]],"kind":"invariance","product":[[[1,[1,0]],[1,[0,1]]]],"space":["x"],"unit":[0],"version":1}"#;
+
 // Whether the parts are stored as they have to be.
 fn is_whole(s: &StoredCertificate) -> bool {
     s.field.modulus() == 7
@@ -156,5 +160,12 @@ fn names_the_first_condition_that_fails(rt: HostRuntime) -> Result<(), Fail> {
         let found = failure(rt.alloc(), key, old, new)?;
         assert!(rt; found == (*condition, *index), "at {key} {new}");
     }
+    Ok(())
+}
+
+#[test]
+fn refuses_too_high_a_degree_before_products(rt: HostRuntime) -> Result<(), Fail> {
+    let found = failure_in(rt.alloc(), TOO_HIGH.as_bytes());
+    assert!(rt; found == (8, 1));
     Ok(())
 }

@@ -6,8 +6,22 @@ use Rattle.rinv_algebra.specs.Value.{substitute}
 use Rattle.rinv_algebra.proofs.ResidueLaws.{residue_laws}
 use Rattle.rinv_algebra.proofs.PolynomialLaws.{poly_laws}
 use Rattle.rinv_sub.proofs.Sums.{IfOk-same, OnOk-always}
-use Rattle.rinv_check.proofs.Changes.{change-same, fits-all, fits-left, fits-right, meets-so}
+use Rattle.rinv_check.proofs.Changes.{change-same, fits-all, fits-left, fits-right, meets-so, meets-numerator, meets-denominator}
 use Rattle.rinv_check.proofs.invariance.change.Goals as goal
+
+pub returns-in_err-moved_numerator-clause-degree : goal.returns-in_err-moved_numerator-clause-degree
+returns-in_err-moved_numerator-clause-degree c =
+    let r = c.args.rings.now in
+    let q = err_from_is_err_and c.from_residual.result c.from_residual.ensures.1 in
+    rw (q.1, q.2)
+    (meets-numerator r.whole.coeffs r.whole.vars r.group c.args.action.now c.args.numerator.now c.args.denominator.now r.space.vars c.requires.numerator c.in_err-moved_numerator.field-0.0 c.in_err-moved_numerator.ensures.degree)
+
+pub returns-in_err-moved_denominator-clause-degree : goal.returns-in_err-moved_denominator-clause-degree
+returns-in_err-moved_denominator-clause-degree c =
+    let r = c.args.rings.now in
+    let q = err_from_is_err_and c.from_residual-in_err-moved_denominator.result c.from_residual-in_err-moved_denominator.ensures.1 in
+    rw (q.1, q.2)
+    (meets-denominator r.whole.coeffs r.whole.vars r.group c.args.action.now c.args.numerator.now c.args.denominator.now r.space.vars c.requires.denominator c.in_err-moved_denominator.field-0.0 c.in_err-moved_denominator.ensures.degree)
 
 pub returns-in_err-left-clause-degree : goal.returns-in_err-left-clause-degree
 returns-in_err-left-clause-degree c =

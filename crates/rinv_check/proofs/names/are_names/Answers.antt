@@ -1,4 +1,4 @@
-use Rattle.std.proofs.Common.{◌≡◌, ◌+◌, ◌<◌, ◌++◌, [], ◌∷◌, ◌∙◌, ◌&&◌, List, ℕ, Bool, true, false, length, get_or, take, drop, refl, ap, sym, take_all}
+use Rattle.std.proofs.Common.{◌≡◌, ◌+◌, ◌<◌, ◌++◌, [], ◌∷◌, ◌∙◌, ◌&&◌, List, ℕ, true, false, length, get_or, take, drop, refl, ap, sym, take_all}
 use Rattle.std.proofs.lemmas.List.{take_more, take-append-drop}
 use Rattle.rinv_defs.specs.Names.{are_names}
 use Rattle.rinv_text.specs.Names.{is_new_name}
