@@ -2,7 +2,7 @@
 
 ghost use Rattle.std.specs.Prelude.{◌≡◌};
 ghost use Rattle.rinv_defs.specs.Laws.{copies};
-ghost use Rattle.rinv_laws.specs.LawNames.{law_of, is_of_action};
+ghost use Rattle.rinv_parts.specs.LawNames.{law_of, is_of_action};
 
 use std::fmt;
 
@@ -50,7 +50,7 @@ impl LawName {
 
 impl fmt::Display for LawName {
     ghost use Rattle.std.specs.Prelude.{Some};
-    ghost use Rattle.rinv_laws.specs.LawNames.{law_of, law_word};
+    ghost use Rattle.rinv_parts.specs.LawNames.{law_of, law_word};
 
     ghost output = { λ law. Some (law_word (law_of law)) };
 

@@ -3,8 +3,8 @@ use Rattle.std.specs.Prelude.{ℕ, ◌+◌, ◌*◌, List, codes, Bool, true, fa
 use Rattle.rinv_defs.specs.System.{System, group_count, space_count}
 use Rattle.rinv_defs.specs.Laws.{Law, copies}
 use Rattle.rinv_defs.specs.Laws.Law.{L1, L2, L3, L4, L5, L6, A1, A2}
-use Rattle.rinv_laws.specs.declared.law.LawName.{LawName}
-use Rattle.rinv_laws.specs.declared.law.LawName.TheVariants.{L1 as N1, L2 as N2, L3 as N3, L4 as N4, L5 as N5, L6 as N6, A1 as M1, A2 as M2}
+use Rattle.rinv_parts.specs.declared.law.LawName.{LawName}
+use Rattle.rinv_parts.specs.declared.law.LawName.TheVariants.{L1 as N1, L2 as N2, L3 as N3, L4 as N4, L5 as N5, L6 as N6, A1 as M1, A2 as M2}
 
 -- the law with a name
 abbrev pub law_of : LawName → Law
