@@ -64,3 +64,14 @@ law_word L5 = codes "L5"
 law_word L6 = codes "L6"
 law_word A1 = codes "A1"
 law_word A2 = codes "A2"
+
+-- in how many variables the polynomials are of which a law speaks
+abbrev pub polynomial_variables : System → Law → ℕ
+polynomial_variables s L1 = group_count s
+polynomial_variables s L2 = group_count s
+polynomial_variables s L3 = group_count s
+polynomial_variables s L4 = 2 * group_count s
+polynomial_variables s L5 = 2 * group_count s
+polynomial_variables s L6 = 2 * group_count s
+polynomial_variables s A1 = group_count s + space_count s
+polynomial_variables s A2 = group_count s + space_count s

@@ -5,8 +5,8 @@ use Rattle.rinv_defs.specs.SystemForm.{IsSystem}
 use Rattle.rinv_defs.specs.Laws.{Law, parts}
 use Rattle.rinv_parts.specs.declared.parts.LawParts.{LawParts}
 use Rattle.rinv_parts.specs.LawNames.{law_of, variables_of}
-use Rattle.rinv_parts.specs.Points.{Points, ArePoints, IsStoredIn, law_points, law_polynomials}
-use Rattle.rinv_parts.specs.Substitutions.{taken_at, made_at, all_fit, OneMeets}
+use Rattle.rinv_parts.specs.Points.{ArePoints, IsStoredIn, law_points, law_polynomials}
+use Rattle.rinv_parts.specs.Substitutions.{taken_at, all_fit, OneMeets}
 
 -- a ring over the field of p elements in v variables is that of the law
 pub record IsLawRing (s : System) (law : Law) (p v : ℕ) : Type 0 where
@@ -30,11 +30,6 @@ part_meets s law k x y = OneMeets s.p (variables_of s law) (taken_at (law_polyno
 pub record ArePartsOf (s : System) (l : LawParts) : Type 0 where
   pub ring : IsLawRing s (law_of l.law) l.ring.coeffs l.ring.vars
   pub points : ArePoints s.p (variables_of s (law_of l.law)) (law_points s (law_of l.law)) l.points
-
--- the part at place k of what is said of polynomials
-pub record IsMade (p v : ℕ) (fs : List Poly) (points : Points) (k : ℕ) (f : Poly) : Type 0 where
-  pub stored : IsStoredIn p v (made_at p fs points k) f
-  pub fits : all_fit p (taken_at fs points k) ≡ true
 
 -- the part of the law at place k
 pub record IsPart (s : System) (law : Law) (k : ℕ) (f : Poly) : Type 0 where

@@ -79,8 +79,8 @@ AreCoordinates p v m n (Give a c) = IsPoint p v m a.items × IsPoint p v n c.ite
 AreCoordinates p v m n (GiveBoth a b c) = IsPoint p v m a.items × IsPoint p v m b.items × IsPoint p v n c.items
 
 -- how many parts n polynomials make
-abbrev pub part_number : ℕ → Points → ℕ
-part_number n (vanish x) = n
-part_number n (agree x y) = n
-part_number n (give x z) = n
-part_number n (give_both x y z) = n + n
+abbrev pub part_number : ℕ → LawPoints → ℕ
+part_number n (Vanish a) = n
+part_number n (Agree a b) = n
+part_number n (Give a c) = n
+part_number n (GiveBoth a b c) = n + n

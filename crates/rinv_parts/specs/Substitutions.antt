@@ -1,17 +1,17 @@
 -- The substitutions by which a part of a law is made: whether they fit, and which degrees they meet.
-use Rattle.std.specs.Prelude.{ℕ, ◌⊎◌, ◌-◌, List, [], ◌∷◌, length, get_or, nat_lt, if◌then◌else◌, Bool, true, ◌&&◌}
+use Rattle.std.specs.Prelude.{ℕ, ◌≡◌, ◌⊎◌, ◌-◌, List, [], ◌∷◌, length, get_or, nat_lt, if◌then◌else◌, Bool, true, ◌&&◌}
 use Rattle.rinv_algebra.specs.Residue.{residue_ops}
 use Rattle.rinv_algebra.specs.Polynomial.{difference}
 use Rattle.rinv_algebra.specs.Value.{substitute}
 use Rattle.rinv_algebra.specs.Fits.{substitution_fits}
-use Rattle.rinv_ring.specs.Operation.{RingOp}
-use Rattle.rinv_sub.specs.Refusal.{SubstitutionMeets}
+use Rattle.rinv_sub.specs.Refusal.{SubstitutionMeets, never}
 use Rattle.rinv_defs.specs.System.{Poly}
-use Rattle.rinv_parts.specs.Points.{Points, vanish, agree, give, give_both}
+use Rattle.rinv_parts.specs.Points.{IsStoredIn, Points, vanish, agree, give, give_both}
 
--- numbers modulo a prime have no degrees
-abbrev pub never : RingOp → ℕ → ℕ → ℕ → ℕ → Type 0
-never op a b x y = ⊥
+-- r is f at the point x as it is stored, and its products fit
+pub record IsValue (p v : ℕ) (x : List Poly) (f r : Poly) : Type 0 where
+  pub stored : IsStoredIn p v (substitute (residue_ops p) x f) r
+  pub fits : substitution_fits (residue_ops p) x f ≡ true
 
 -- a point, and a polynomial that is taken there
 abbrev pub Taken : Type 0
@@ -27,6 +27,17 @@ taken_at fs (give_both x y z) k = (if nat_lt k (length fs) then (x, get_or fs k 
 -- the difference of the value of f at x and a polynomial
 abbrev pub less : ℕ → List Poly → Poly → Poly → Poly
 less p x f g = difference (residue_ops p) (substitute (residue_ops p) x f) g
+
+-- r is this difference as it is stored, and the products of the value fit
+pub record IsLess (p v : ℕ) (x : List Poly) (f g r : Poly) : Type 0 where
+  pub stored : IsStoredIn p v (less p x f g) r
+  pub fits : substitution_fits (residue_ops p) x f ≡ true
+
+-- r is the difference of the values of f at x and y as it is stored, and the products of both fit
+pub record IsAgreement (p v : ℕ) (x y : List Poly) (f r : Poly) : Type 0 where
+  pub stored : IsStoredIn p v (less p x f (substitute (residue_ops p) y f)) r
+  pub first_fits : substitution_fits (residue_ops p) x f ≡ true
+  pub second_fits : substitution_fits (residue_ops p) y f ≡ true
 
 -- and the part
 abbrev pub made_at : ℕ → List Poly → Points → ℕ → Poly
@@ -48,3 +59,8 @@ TakenMeets p v x f m n = SubstitutionMeets (residue_ops p) (λ c. nat_lt c p) ne
 abbrev pub OneMeets : ℕ → ℕ → List Taken → ℕ → ℕ → Type 0
 OneMeets p v [] m n = ⊥
 OneMeets p v (t ∷ ts) m n = TakenMeets p v t.0 t.1 m n ⊎ OneMeets p v ts m n
+
+-- the part at place k of what is said of polynomials, as it is stored, and its substitutions fit
+pub record IsMade (p v : ℕ) (fs : List Poly) (points : Points) (k : ℕ) (f : Poly) : Type 0 where
+  pub stored : IsStoredIn p v (made_at p fs points k) f
+  pub fits : all_fit p (taken_at fs points k) ≡ true

@@ -137,7 +137,8 @@ pub(crate) fn unit_point(
     requires field { ring.now.coeffs ≡ system.now.system.p }
     ensures { IfOk result (λ r. AreStored system.now.system.p ring.now.vars (unit_point system.now.system) r.items) }
 {
-    constants(alloc, ring, &system.unit)
+    let unit = constants(alloc, ring, &system.unit)?;
+    Ok(unit)
 }
 
 // The product of the group's variables in a copy and in the next one.
@@ -155,7 +156,8 @@ pub(crate) fn product_of_copies(
     let _vars = ring.vars();
     let count = system.group.len();
     let from = PolyRing::new(system.field, 2 * count);
-    renamed(alloc, &from, &system.product, ring, copy * count)
+    let product = renamed(alloc, &from, &system.product, ring, copy * count)?;
+    Ok(product)
 }
 
 // The inverse of the group's variables in their first copy.
@@ -170,7 +172,8 @@ pub(crate) fn inverse_of_copy(
     ensures { IfOk result (λ r. AreStored system.now.system.p ring.now.vars (inverse_of system.now.system (group_copy system.now.system 0)) r.items) }
 {
     let from = PolyRing::new(system.field, system.group.len());
-    renamed(alloc, &from, &system.inverse, ring, 0)
+    let inverse = renamed(alloc, &from, &system.inverse, ring, 0)?;
+    Ok(inverse)
 }
 
 // The space's variables behind two copies of the group's, moved by those of the second copy.
@@ -187,5 +190,6 @@ pub(crate) fn moved_by_copy(
     let _vars = ring.vars();
     let count = system.group.len();
     let from = PolyRing::new(system.field, count + system.space.len());
-    renamed(alloc, &from, &system.action, ring, count)
+    let moved = renamed(alloc, &from, &system.action, ring, count)?;
+    Ok(moved)
 }
