@@ -1,7 +1,7 @@
 -- Why the algorithm halts, from the parts of a halt and what the calls say.
 --   parts_stop           a stop whose parts have a property
 --   halts-idle, halts-in_division, halts-high    a pair that may not be taken, a division that stopped, a pair that is too high
-use Rattle.std.proofs.Common.{◌≡◌, ℕ, ◌≤◌, ◌<◌, false, List, [], ◌∷◌, ◌++◌, length, map, sym, ap₂, subst, subst₂, inl, inr, arith, IsTrue}
+use Rattle.std.proofs.Common.{◌≡◌, ℕ, Bool, ◌≤◌, ◌<◌, false, List, [], ◌∷◌, ◌++◌, length, map, sym, ap₂, subst, subst₂, inl, inr, arith, IsTrue}
 use Rattle.std.specs.Prelude.{IsFalse}
 use Rattle.std.specs.declared.cmp.Ordering.{Ordering}
 use Rattle.rinv_algebra.specs.Ring.{RingOps}
@@ -23,10 +23,10 @@ use Rattle.rinv_buch.specs.declared.kinds.Stop.{Stop}
 use Rattle.rinv_buch.specs.declared.kinds.Stop.TheVariants.{Incomplete, NoMemory}
 use Rattle.rinv_buch.specs.Kinds.{Halted}
 use Rattle.rinv_buch.specs.Spent.{IsKept, SpendsOn}
-use Rattle.rinv_buch.specs.Causes.{IsCause, Halts, StopsSo}
+use Rattle.rinv_buch.specs.Causes.{HasPairLeft, DegreeCause, IsCause, Halts, StopsSo}
 use Rattle.rinv_buch.specs.Halting.{HasParts, IsOfFault, IsOfStop, IsHighPair, HaltsAtStart, HaltsAfter}
 use Rattle.rinv_buch.specs.Runs.{RunsOutAt, MeetsDegreeAt}
-use Rattle.rinv_buch.proofs.SpentTogether.{spends-steps}
+use Rattle.rinv_buch.proofs.SpentTogether.{spends-steps, pair-left}
 use Rattle.rinv_buch.proofs.RunsOfPairs.{first-meets}
 
 module _ {E : Type 0} where
@@ -49,61 +49,61 @@ module _ {E : Type 0} (o : RingOps E) (cmp : List ℕ → List ℕ → Ordering)
   high-pair list journal leads k of_list inside fresh (HighDegree x z) high y e = subst (IsHighPair o cmp journal list) (sym e) (first-meets o cmp list leads of_list journal k x z inside fresh high)
   high-pair list journal leads k of_list inside fresh NoRoom high y e = absurd e
 
-module _ {E : Type 0} (o : RingOps E) (cmp : List ℕ → List ℕ → Ordering) (too_high : RingOp → E → E → ℕ → ℕ → Type 0) where
-  high-cause : (b : Budget) (journal : List Entry) (list : List (Polynomial E)) (f : Polynomial E) (why : Why) → IsTrue (is_zero o f) → IsHighPair o cmp journal list why → IsCause o cmp too_high b journal list f why
-  high-cause b journal list f (Degree x y) zero high = inl (zero, inl high)
+module _ {E : Type 0} (o : RingOps E) (is_element : E → Bool) (too_high : RingOp → E → E → ℕ → ℕ → Type 0) (v : ℕ) (cmp : List ℕ → List ℕ → Ordering) where
+  high-cause : (b : Budget) (journal : List Entry) (list : List (Polynomial E)) (f : Polynomial E) (why : Why) → IsTrue (is_zero o f) → IsHighPair o cmp journal list why → IsCause o is_element too_high v cmp b journal list f why
+  high-cause b journal list f (Degree x y) zero high = DegreeCause.at_lcm zero high
   high-cause b journal list f (Pairs i j) zero high = absurd high
   high-cause b journal list f (Steps m) zero high = absurd high
 
   module _ (given list : List (Polynomial E)) (journal : List Entry) (made : Journal o cmp given journal list) where
     -- no pair may be taken, and this one is open
     pub halts-idle : {R : Type 0} (start b : Budget) (i j : ℕ) → SpendsOn journal 0 start b → IsKept b → (b.endless ≡ false) × (b.pairs ≤ b.pairs_spent) → IsOpen o cmp journal list i j
-        → (s : Stop R E) → StopsSo (HasParts list journal (λ f y. IsTrue (is_zero o f) × (y ≡ Pairs i j))) s → StopsSo (Halts o cmp too_high given start b) s
-    halts-idle start b i j spent kept out open_pair s p = parts-stop (Halts o cmp too_high given start b) list journal (λ f y. IsTrue (is_zero o f) × (y ≡ Pairs i j))
+        → (s : Stop R E) → StopsSo (HasParts list journal (λ f y. IsTrue (is_zero o f) × (y ≡ Pairs i j))) s → StopsSo (Halts o is_element too_high v cmp given start b) s
+    halts-idle start b i j spent kept out open_pair s p = parts-stop (Halts o is_element too_high v cmp given start b) list journal (λ f y. IsTrue (is_zero o f) × (y ≡ Pairs i j))
         (λ f y q. record {
           journal = made;
           taken = 0;
           at_work = IsAtWork.idle f q.0;
           spent = spent;
-          cause = subst (IsCause o cmp too_high b journal list f) (sym q.1) (out.0, omega (arith, kept.pairs out.0, out.1), q.0, open_pair);
+          cause = subst (IsCause o is_element too_high v cmp b journal list f) (sym q.1) (out.0, omega (arith, kept.pairs out.0, out.1), q.0, open_pair);
         }) s p
 
     -- the division of an open pair stopped
-    pub halts-in_division : {R S : Type 0} (start a b : Budget) (i j : ℕ) → SpendsOn journal 0 start a → IsOpen o cmp journal list i j
-        → (stop : DivStop S E) → StopsBy (RunsOutAt o cmp list i j a b) (MeetsDegreeAt o cmp too_high list i j a b) stop
-        → (s : Stop R E) → StopsSo (HasParts list journal (IsOfStop o cmp list stop)) s → StopsSo (Halts o cmp too_high given start b) s
-    halts-in_division start a b i j spent open_pair stop at s p = parts-stop (Halts o cmp too_high given start b) list journal (IsOfStop o cmp list stop) (go stop at) s p
+    pub halts-in_division : {R S : Type 0} (start a b : Budget) (i j : ℕ) → SpendsOn journal 0 start a → HasPairLeft a → IsOpen o cmp journal list i j
+        → (stop : DivStop S E) → StopsBy (RunsOutAt o cmp list i j a b) (MeetsDegreeAt o is_element too_high v cmp list i j a b) stop
+        → (s : Stop R E) → StopsSo (HasParts list journal (IsOfStop o cmp list stop)) s → StopsSo (Halts o is_element too_high v cmp given start b) s
+    halts-in_division start a b i j spent some open_pair stop at s p = parts-stop (Halts o is_element too_high v cmp given start b) list journal (IsOfStop o cmp list stop) (go stop at) s p
       where
-        go : {S : Type 0} (stop : DivStop S E) → StopsBy (RunsOutAt o cmp list i j a b) (MeetsDegreeAt o cmp too_high list i j a b) stop → (f : Polynomial E) (y : Why) → IsOfStop o cmp list stop f y → Halts o cmp too_high given start b (halt list journal f y)
+        go : {S : Type 0} (stop : DivStop S E) → StopsBy (RunsOutAt o cmp list i j a b) (MeetsDegreeAt o is_element too_high v cmp list i j a b) stop → (f : Polynomial E) (y : Why) → IsOfStop o cmp list stop f y → Halts o is_element too_high v cmp given start b (halt list journal f y)
         go (StepsStop left) at f y (e, m, why, can) =
             let r = at.runs_out in
-            subst₂ (λ (f : Polynomial E) (y : Why). Halts o cmp too_high given start b (halt list journal f y)) (sym e) (sym why) (record {
+            subst₂ (λ (f : Polynomial E) (y : Why). Halts o is_element too_high v cmp given start b (halt list journal f y)) (sym e) (sym why) (record {
               journal = made;
               taken = length r.so_far.steps;
               at_work = IsAtWork.dividing i j r.so_far.steps left open_pair at.not_coprime r.so_far.by_steps;
               spent = spends-steps journal (length r.so_far.steps) spent r.so_far.spent;
-              cause = (r.endless, r.all_spent, can.has, can.reducible);
+              cause = (r.endless, pair-left r.so_far.spent some r.endless, r.all_spent, can.has, can.reducible);
             })
-        go (DegreeStop x z left) at f y (e, why) = subst₂ (λ (f : Polynomial E) (y : Why). Halts o cmp too_high given start b (halt list journal f y)) (sym e) (sym why) (elim at.meets [
+        go (DegreeStop x z left) at f y (e, why) = subst₂ (λ (f : Polynomial E) (y : Why). Halts o is_element too_high v cmp given start b (halt list journal f y)) (sym e) (sym why) (elim at.meets [
           | inl (zero, none, meets) ↦ record {
             journal = made;
             taken = 0;
             at_work = IsAtWork.idle left zero;
             spent = spends-steps journal 0 spent none;
-            cause = inl (zero, inr (record { first = i; second = j; open_pair = open_pair; not_coprime = at.not_coprime; meets = meets }));
+            cause = DegreeCause.at_pair zero (pair-left none some) (record { first = i; second = j; open_pair = open_pair; not_coprime = at.not_coprime; meets = meets });
           }
           | inr d ↦ record {
             journal = made;
             taken = length d.so_far.steps;
             at_work = IsAtWork.dividing i j d.so_far.steps left open_pair at.not_coprime d.so_far.by_steps;
             spent = spends-steps journal (length d.so_far.steps) spent d.so_far.spent;
-            cause = inr d.meets;
+            cause = DegreeCause.at_step (pair-left d.so_far.spent some) d.step_left d.meets;
           }
         ])
         go MemoryStop at f y q = absurd q
 
-  pub start-halts : {R : Type 0} (given : List (Polynomial E)) (b : Budget) → SpendsOn [] 0 b b → (s : Stop R E) → StopsSo (HaltsAtStart o cmp given) s → StopsSo (Halts o cmp too_high given b b) s
-  start-halts given b spent s p = stop-weaker (HaltsAtStart o cmp given) (Halts o cmp too_high given b b) (λ h a. record {
+  pub start-halts : {R : Type 0} (given : List (Polynomial E)) (b : Budget) → SpendsOn [] 0 b b → (s : Stop R E) → StopsSo (HaltsAtStart o cmp given) s → StopsSo (Halts o is_element too_high v cmp given b b) s
+  start-halts given b spent s p = stop-weaker (HaltsAtStart o cmp given) (Halts o is_element too_high v cmp given b b) (λ h a. record {
     journal = a.journal;
     taken = 0;
     at_work = IsAtWork.idle h.working a.idle;
@@ -111,8 +111,8 @@ module _ {E : Type 0} (o : RingOps E) (cmp : List ℕ → List ℕ → Ordering)
     cause = high-cause b h.journal h.polys h.working h.why a.idle a.high;
   }) s p
 
-  pub after-halts : {R : Type 0} (given : List (Polynomial E)) (journal : List Entry) (count : ℕ) (start b : Budget) → ((e : Entry) → e.steps ≡ count → SpendsOn (journal ++ e ∷ []) 0 start b) → (s : Stop R E) → StopsSo (HaltsAfter o cmp given journal count) s → StopsSo (Halts o cmp too_high given start b) s
-  after-halts given journal count start b spent s p = stop-weaker (HaltsAfter o cmp given journal count) (Halts o cmp too_high given start b) (λ h a. record {
+  pub after-halts : {R : Type 0} (given : List (Polynomial E)) (journal : List Entry) (count : ℕ) (start b : Budget) → ((e : Entry) → e.steps ≡ count → SpendsOn (journal ++ e ∷ []) 0 start b) → (s : Stop R E) → StopsSo (HaltsAfter o cmp given journal count) s → StopsSo (Halts o is_element too_high v cmp given start b) s
+  after-halts given journal count start b spent s p = stop-weaker (HaltsAfter o cmp given journal count) (Halts o is_element too_high v cmp given start b) (λ h a. record {
     journal = a.journal;
     taken = 0;
     at_work = IsAtWork.idle h.working a.idle;

@@ -18,8 +18,4 @@ pub mod Inserted
 pub mod TakenOut
 pub mod Makings
 pub mod MadeSoFar
-pub mod CombinedSums
-pub mod JournalSteps
-pub mod Cofactors
-pub mod PairMultipliers
 pub mod OwnIdeal

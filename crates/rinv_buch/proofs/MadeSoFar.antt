@@ -64,13 +64,13 @@ module _ {E : Type 0} (o : RingOps E) (cmp : List ℕ → List ℕ → Ordering)
   }
 
   -- a fault at a place
-  pub making-meets : (too_high : RingOp → E → E → ℕ → ℕ → Type 0) (hs ks : List (Polynomial E)) (k : ℕ) → ks ≡ kept o cmp hs → k < length ks → (fault : RingFault) → DegreesMeet (MakingMeets o cmp too_high ks k) fault → DegreesMeet (ReducingMeets o cmp too_high hs) fault
-  making-meets too_high hs ks k same inside (Degree x y) meets = record {
+  pub making-meets : (is_element : E → Bool) (too_high : RingOp → E → E → ℕ → ℕ → Type 0) (v : ℕ) (hs ks : List (Polynomial E)) (k : ℕ) → ks ≡ kept o cmp hs → k < length ks → (fault : RingFault) → DegreesMeet (MakingMeets o is_element too_high v cmp ks k) fault → DegreesMeet (ReducingMeets o is_element too_high v cmp hs) fault
+  making-meets is_element too_high v hs ks k same inside (Degree x y) meets = record {
     place = k;
     inside = subst (λ (ks : List (Polynomial E)). k < length ks) same inside;
-    meets = subst (λ (ks : List (Polynomial E)). MakingMeets o cmp too_high ks k x y) same meets;
+    meets = subst (λ (ks : List (Polynomial E)). MakingMeets o is_element too_high v cmp ks k x y) same meets;
   }
-  making-meets too_high hs ks k same inside NoMemory meets = tt
+  making-meets is_element too_high v hs ks k same inside NoMemory meets = tt
 
   module _ (l : RingLaws o) (field : FieldLaws o) (is_element : E → Bool) (v : ℕ) (order : OrdersMonomials cmp v) (hs : List (Polynomial E)) (normal : All (IsNormal o is_element v) hs) (nonzero : All (λ h. is_zero o h ≡ false) hs) where
     abbrev ks : List (Polynomial E)

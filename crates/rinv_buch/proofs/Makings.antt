@@ -1,10 +1,11 @@
 -- What is made of the kept elements.
 --   monic-of             a polynomial times an inverse of its leading coefficient
+--   scaling-meets, monic-meets, dividing-meets    degrees that making an element meets
 --   division-at, made-at what is made of an element taken out of the list
 --   kept-leads_apart     no leading monomial of a kept element divides that of another
 --   normal_spread        elements in normal form with such leading monomials
 --   rest_remains         what division of one of them by the others leaves
-use Rattle.std.proofs.Common.{◌≡◌, ℕ, ◌<◌, ◌∷◌, Bool, true, false, List, [], length, get_or, refl, sym, ◌∙◌, subst, subst₂, All, IsTrue, arith, nat_le, true≢false}
+use Rattle.std.proofs.Common.{◌≡◌, ℕ, ◌<◌, ◌∷◌, Bool, true, false, List, [], length, get_or, refl, sym, ◌∙◌, inl, inr, subst, subst₂, All, IsTrue, arith, nat_le, true≢false}
 use Rattle.std.specs.Prelude.{IsFalse, remove}
 use Rattle.std.specs.declared.cmp.Ordering.{Ordering}
 use Rattle.std.proofs.lemmas.Bool.{le-leb}
@@ -29,9 +30,16 @@ use Rattle.rinv_groebner.proofs.KeptDivisors.{kept-apart}
 use Rattle.rinv_groebner.proofs.MembersOfLists.{member_generator}
 use Rattle.rinv_groebner.proofs.MonomialLists.{divides-divisor, divisor-divides}
 use Rattle.rinv_groebner.proofs.Remainders.{AreSpread, IsRemainder, remainder}
+use Rattle.rinv_poly.specs.Faults.{MultipleMeets}
 use Rattle.rinv_poly.proofs.Forms.{IsNormalTerm, ordered-from_normal}
-use Rattle.rinv_div.specs.Stops.{Divides}
-use Rattle.rinv_buch.specs.Reducing.{AreLeadsApart}
+use Rattle.rinv_ring.specs.Operation.{RingOp}
+use Rattle.rinv_div.specs.Stops.{Divides, StepsMeet}
+use Rattle.rinv_buch.specs.Reducing.{AreLeadsApart, MonicMeets, MakingMeets}
+
+-- where dividing an element taken out by the others meets degrees, making one of it does
+pub dividing-meets : {E : Type 0} (o : RingOps E) (is_element : E → Bool) (too_high : RingOp → E → E → ℕ → ℕ → Type 0) (v : ℕ) (cmp : List ℕ → List ℕ → Ordering) (hs others : List (Polynomial E)) (k : ℕ) (f : Polynomial E)
+    → others ≡ remove hs k → f ≡ get_or hs k [] → (x y : ℕ) → StepsMeet o cmp others f is_element too_high x y → MakingMeets o is_element too_high v cmp hs k x y
+dividing-meets o is_element too_high v cmp hs others k f removed taken x y m = inl (subst₂ (λ (hs : List (Polynomial _)) (f : Polynomial _). StepsMeet o cmp hs f is_element too_high x y) removed taken m)
 
 -- no leading monomial of a kept element divides that of another
 pub kept-leads_apart : {E : Type 0} (o : RingOps E) (cmp : List ℕ → List ℕ → Ordering) (hs : List (Polynomial E)) → AreLeadsApart o cmp (kept o cmp hs)
@@ -47,6 +55,11 @@ module _ {E : Type 0} (o : RingOps E) (cmp : List ℕ → List ℕ → Ordering)
   pub division-at : (steps : List (Step E)) × IsDivision o cmp (remove hs k) (get_or hs k []) steps rest
   division-at = (found.0, subst₂ (λ (hs : List (Polynomial E)) (f : Polynomial E). IsDivision o cmp hs f found.0 rest) removed taken found.1.is_division)
 
+  -- where making monic what it leaves meets degrees, making an element of the one taken out does
+  module _ (is_element : E → Bool) (too_high : RingOp → E → E → ℕ → ℕ → Type 0) (v : ℕ) where
+    pub monic-meets : IsNormal o is_element v rest → (x y : ℕ) → MonicMeets o is_element too_high v cmp rest x y → MakingMeets o is_element too_high v cmp hs k x y
+    monic-meets normal x y m = inr (record { steps = division-at.0; rest = rest; division = division-at.1; normal = normal; meets = m })
+
   -- what it leaves, made monic, is made of the element
   pub made-at : (g : Polynomial E) → IsMonicOf o cmp rest g → IsMadeAt o cmp hs k g
   made-at g m = record { steps = division-at.0; rest = rest; division = division-at.1; monic = m }
@@ -58,6 +71,16 @@ module _ {E : Type 0} (o : RingOps E) (l : RingLaws o) (cmp : List ℕ → List 
     factor = b;
     inverse = facts.then o l (l.mul_comm b (leading_coefficient o cmp f)) (facts.then o l (facts.mul2 o l (facts.back o l lead) (l.same_refl b)) one);
     scaled = scaled;
+  }
+
+  -- where multiplying it by the inverse meets degrees, making it monic does
+  pub scaling-meets : (is_element : E → Bool) (too_high : RingOp → E → E → ℕ → ℕ → Type 0) (v : ℕ) (f : Polynomial E) (c b : E) → IsSame o c (leading_coefficient o cmp f) → IsTrue (is_element b) → IsSame o (o.mul c b) o.one
+      → (x y : ℕ) → MultipleMeets o is_element too_high b f x y → MonicMeets o is_element too_high v cmp f x y
+  scaling-meets is_element too_high v f c b lead element one x y m = record {
+    inverse = b;
+    element = element;
+    of_lead = facts.then o l (facts.mul2 o l (facts.back o l lead) (l.same_refl b)) one;
+    meets = m;
   }
 
   module _ (is_element : E → Bool) (v : ℕ) where

@@ -50,11 +50,11 @@ module _ {E : Type 0} (o : RingOps E) (cmp : List ℕ → List ℕ → Ordering)
 
   module _ (hs : List (Polynomial E)) (i j : ℕ) (off : AreCoprime o cmp hs i j → ⊥) where
     -- a fault before the division
-    pub stops-idle : {R : Type 0} → (high : RingOp → E → E → ℕ → ℕ → Type 0) (b : Budget) (fault : RingFault) (stop : DivStop R E) → StopsBy (λ _. ⊥) (λ x y _. fault ≡ DegreeFault x y) stop → StopsBy (λ _. ⊥) (λ _ _ f. IsTrue (is_zero o f)) stop → DegreesMeet (SPolynomialMeets o cmp high (get_or hs i []) (get_or hs j [])) fault → Spends 0 b b
-        → StopsBy (RunsOutAt o cmp hs i j b b) (MeetsDegreeAt o cmp high hs i j b b) stop
-    stops-idle high b fault (StepsStop w) is idle meets none = absurd is
-    stops-idle high b fault (Degree x y w) is idle meets none = record { not_coprime = off; meets = inl (idle, none, subst (DegreesMeet (SPolynomialMeets o cmp high (get_or hs i []) (get_or hs j []))) is meets) }
-    stops-idle high b fault NoMemory is idle meets none = tt
+    pub stops-idle : {R : Type 0} → (is_element : E → Bool) (high : RingOp → E → E → ℕ → ℕ → Type 0) (v : ℕ) (b : Budget) (fault : RingFault) (stop : DivStop R E) → StopsBy (λ _. ⊥) (λ x y _. fault ≡ DegreeFault x y) stop → StopsBy (λ _. ⊥) (λ _ _ f. IsTrue (is_zero o f)) stop → DegreesMeet (SPolynomialMeets o is_element high v cmp (get_or hs i []) (get_or hs j [])) fault → Spends 0 b b
+        → StopsBy (RunsOutAt o cmp hs i j b b) (MeetsDegreeAt o is_element high v cmp hs i j b b) stop
+    stops-idle is_element high v b fault (StepsStop w) is idle meets none = absurd is
+    stops-idle is_element high v b fault (Degree x y w) is idle meets none = record { not_coprime = off; meets = inl (idle, none, subst (DegreesMeet (SPolynomialMeets o is_element high v cmp (get_or hs i []) (get_or hs j []))) is meets) }
+    stops-idle is_element high v b fault NoMemory is idle meets none = tt
 
     module _ (l : RingLaws o) (s : Polynomial E) (same : IsSame (poly_ops o) s (s_at o cmp hs i j)) where
       -- the division leaves the rest of the pair
@@ -71,9 +71,9 @@ module _ {E : Type 0} (o : RingOps E) (cmp : List ℕ → List ℕ → Ordering)
         so-far w f = record { steps = f.steps; by_steps = steps-same l hs s (s_at o cmp hs i j) same f.steps w f.by_steps; spent = run-spends before own spent after h (length f.steps) f.spent }
 
         -- a stop of the division is one of the run
-        pub stops-dividing : {R : Type 0} → (high : RingOp → E → E → ℕ → ℕ → Type 0) (stop : DivStop R E) → StopsBy (RunsOut o cmp hs s own spent) (MeetsDegree o cmp hs s high own spent) stop
-            → StopsBy (RunsOutAt o cmp hs i j before after) (MeetsDegreeAt o cmp high hs i j before after) stop
-        stops-dividing high (StepsStop w) r = record {
+        pub stops-dividing : {R : Type 0} → (is_element : E → Bool) (high : RingOp → E → E → ℕ → ℕ → Type 0) (v : ℕ) (stop : DivStop R E) → StopsBy (RunsOut o cmp hs s own spent) (MeetsDegree o cmp hs s is_element high own spent) stop
+            → StopsBy (RunsOutAt o cmp hs i j before after) (MeetsDegreeAt o is_element high v cmp hs i j before after) stop
+        stops-dividing is_element high v (StepsStop w) r = record {
           not_coprime = off;
           runs_out = record {
             so_far = so-far w r.so_far;
@@ -84,8 +84,8 @@ module _ {E : Type 0} (o : RingOps E) (cmp : List ℕ → List ℕ → Ordering)
             is_reducible = r.is_reducible;
           };
         }
-        stops-dividing high (Degree x y w) m = record {
+        stops-dividing is_element high v (Degree x y w) m = record {
           not_coprime = off;
           meets = inr (record { so_far = so-far w m.so_far; step_left = run-left before own spent after h m.step_left; meets = m.meets });
         }
-        stops-dividing high NoMemory t = tt
+        stops-dividing is_element high v NoMemory t = tt

@@ -5,6 +5,7 @@ use Rattle.std.proofs.lemmas.List.Sums.{sum_by-append}
 use Rattle.rinv_groebner.specs.Journal.{Entry}
 use Rattle.rinv_div.specs.declared.budget.Budget.{Budget}
 use Rattle.rinv_div.specs.Budgets.{Spends}
+use Rattle.rinv_buch.specs.Causes.{HasPairLeft}
 use Rattle.rinv_buch.specs.Spent.{KeepsLimits, SpendsBoth, steps_of, SpendsOn}
 
 pub limits-refl : (b : Budget) → KeepsLimits b b
@@ -48,3 +49,9 @@ spends-steps {start} {a} {b} journal count h k = record {
   steps_spent = sum-twice (2 ^ 64 - 1) a.steps_spent b.steps_spent start.steps_spent (steps_of journal + 0) count h.steps_spent k.steps_spent ∙ ap (λ (n : ℕ). min (start.steps_spent + n) (2 ^ 64 - 1)) (omega arith);
   limits = limits-trans h.limits (record { pairs = k.others.pairs; steps = k.others.steps; endless = k.others.endless });
 }
+
+-- a division takes no pair
+pub pair-left : {a b : Budget} {count : ℕ} → Spends count a b → HasPairLeft a → HasPairLeft b
+pair-left h some e =
+    let left = some (sym h.others.endless ∙ e) in
+    omega (arith, left, h.others.pairs_spent, h.others.pairs)

@@ -1,17 +1,17 @@
 -- Why Buchberger's algorithm halts.
-use Rattle.std.specs.Prelude.{◌≡◌, ℕ, ◌<◌, ◌⊎◌, false, List, [], get_or, IsTrue, ⊤}
+use Rattle.std.specs.Prelude.{◌≡◌, ℕ, ◌<◌, ◌⊎◌, Bool, false, List, [], get_or, IsTrue, ⊤}
 use Rattle.std.specs.declared.cmp.Ordering.{Ordering}
 use Rattle.rinv_algebra.specs.Ring.{RingOps}
 use Rattle.rinv_algebra.specs.Monomial.{total_degree, max_degree}
-use Rattle.rinv_algebra.specs.Polynomial.{Polynomial, has_monomial, is_zero}
+use Rattle.rinv_algebra.specs.Polynomial.{Polynomial, has_monomial, is_zero, term_product}
 use Rattle.rinv_algebra.specs.Leading.{multiplier}
 use Rattle.rinv_groebner.specs.Division.{is_reducible}
 use Rattle.rinv_groebner.specs.Settled.{lead_at, lcm_at, AreCoprime}
 use Rattle.rinv_groebner.specs.Journal.{Entry, IsOpen, Journal, IsAtWork}
 use Rattle.rinv_ring.specs.Operation.{RingOp}
-use Rattle.rinv_poly.specs.Faults.{OperationsMeet}
+use Rattle.rinv_poly.specs.Combined.{TermMeets, DifferenceMeets}
 use Rattle.rinv_div.specs.declared.budget.Budget.{Budget}
-use Rattle.rinv_div.specs.Stops.{ProductMeets, NextMeets}
+use Rattle.rinv_div.specs.Stops.{NextMeets}
 use Rattle.rinv_buch.specs.declared.kinds.Why.{Why}
 use Rattle.rinv_buch.specs.declared.kinds.Why.TheVariants.{Pairs, Steps, Degree}
 use Rattle.rinv_buch.specs.declared.kinds.Stop.{Stop}
@@ -19,9 +19,12 @@ use Rattle.rinv_buch.specs.declared.kinds.Stop.TheVariants.{Incomplete, NoMemory
 use Rattle.rinv_buch.specs.Kinds.{Halted}
 use Rattle.rinv_buch.specs.Spent.{SpendsOn}
 
--- the product of a multiplier and its polynomial in the S-polynomial of f and g meets these degrees, or an operation on coefficients does
-abbrev pub SPolynomialMeets : {E : Type 0} → RingOps E → (List ℕ → List ℕ → Ordering) → (RingOp → E → E → ℕ → ℕ → Type 0) → Polynomial E → Polynomial E → ℕ → ℕ → Type 0
-SPolynomialMeets o cmp too_high f g x y = ProductMeets o (multiplier o cmp f g).0 f x y ⊎ (ProductMeets o (multiplier o cmp g f).0 g x y ⊎ OperationsMeet too_high x y)
+-- a pair may still be taken, and a step
+abbrev pub HasPairLeft : Budget → Type 0
+HasPairLeft b = b.endless ≡ false → b.pairs_spent < b.pairs
+
+abbrev pub HasStepLeft : Budget → Type 0
+HasStepLeft b = b.endless ≡ false → b.steps_spent < b.steps
 
 module _ {E : Type 0} (o : RingOps E) (cmp : List ℕ → List ℕ → Ordering) where
   -- the leading monomials of an open pair have these degrees, and their least common multiple is over the limit
@@ -33,33 +36,42 @@ module _ {E : Type 0} (o : RingOps E) (cmp : List ℕ → List ℕ → Ordering)
     pub right : total_degree (lead_at o cmp list second) ≡ y
     pub over : max_degree < total_degree (lcm_at o cmp list first second)
 
-  module _ (too_high : RingOp → E → E → ℕ → ℕ → Type 0) where
-    -- the S-polynomial of an open pair that is not coprime meets these degrees
-    pub record PairMeets (journal : List Entry) (list : List (Polynomial E)) (x y : ℕ) : Type 0 where
-      pub first : ℕ
-      pub second : ℕ
-      pub open_pair : IsOpen o cmp journal list first second
-      pub not_coprime : AreCoprime o cmp list first second → ⊥
-      pub meets : SPolynomialMeets o cmp too_high (get_or list first []) (get_or list second []) x y
+module _ {E : Type 0} (o : RingOps E) (is_element : E → Bool) (too_high : RingOp → E → E → ℕ → ℕ → Type 0) (v : ℕ) (cmp : List ℕ → List ℕ → Ordering) where
+  -- making the S-polynomial of f and g, in v variables, may answer these degrees: in the multiple of one of them, or in the difference
+  abbrev pub SPolynomialMeets : Polynomial E → Polynomial E → ℕ → ℕ → Type 0
+  SPolynomialMeets f g x y =
+      TermMeets o is_element too_high v (multiplier o cmp f g) f x y
+      ⊎ (TermMeets o is_element too_high v (multiplier o cmp g f) g x y ⊎ DifferenceMeets o is_element too_high v (term_product o (multiplier o cmp f g) f) (term_product o (multiplier o cmp g f) g) x y)
 
-    -- a pair meets these degrees and nothing is at work, or the next step on what is at work does
-    abbrev pub DegreeCause : List Entry → List (Polynomial E) → Polynomial E → ℕ → ℕ → Type 0
-    DegreeCause journal list working x y = (IsTrue (is_zero o working) × (LcmMeets journal list x y ⊎ PairMeets journal list x y)) ⊎ NextMeets o cmp list too_high working x y
+  -- making the S-polynomial of an open pair that is not coprime may answer these degrees
+  pub record PairMeets (journal : List Entry) (list : List (Polynomial E)) (x y : ℕ) : Type 0 where
+    pub first : ℕ
+    pub second : ℕ
+    pub open_pair : IsOpen o cmp journal list first second
+    pub not_coprime : AreCoprime o cmp list first second → ⊥
+    pub meets : SPolynomialMeets (get_or list first []) (get_or list second []) x y
 
-    -- what each reason says: the pairs are spent and this one is open; the steps are spent and this monomial can be cancelled; or
-    -- these degrees are met
-    abbrev pub IsCause : Budget → List Entry → List (Polynomial E) → Polynomial E → Why → Type 0
-    IsCause b journal list working (Pairs first second) = (b.endless ≡ false) × (b.pairs_spent ≡ b.pairs) × IsTrue (is_zero o working) × IsOpen o cmp journal list first second
-    IsCause b journal list working (Steps reducible) = (b.endless ≡ false) × (b.steps_spent ≡ b.steps) × IsTrue (has_monomial o working reducible) × IsTrue (is_reducible o cmp list reducible)
-    IsCause b journal list working (Degree left right) = DegreeCause journal list working left right
+  -- these degrees are met: by the leading monomials of a pair while nothing is at work; or, while a pair may be taken, as an
+  -- S-polynomial is made, or where also a step may be taken, by the next step on what is at work
+  pub data DegreeCause (b : Budget) (journal : List Entry) (list : List (Polynomial E)) (working : Polynomial E) (x y : ℕ) : Type 0 where
+    at_lcm : IsTrue (is_zero o working) → LcmMeets o cmp journal list x y → DegreeCause b journal list working x y
+    at_pair : IsTrue (is_zero o working) → HasPairLeft b → PairMeets journal list x y → DegreeCause b journal list working x y
+    at_step : HasPairLeft b → HasStepLeft b → NextMeets o cmp list is_element too_high working x y → DegreeCause b journal list working x y
 
-    -- the journal is one on the polynomials given, what is at work comes of it by these steps, both are spent, and the cause holds
-    pub record Halts (given : List (Polynomial E)) (before after : Budget) (h : Halted E) : Type 0 where
-      pub journal : Journal o cmp given h.journal h.polys
-      pub taken : ℕ
-      pub at_work : IsAtWork o cmp h.journal h.polys taken h.working
-      pub spent : SpendsOn h.journal taken before after
-      pub cause : IsCause after h.journal h.polys h.working h.why
+  -- what each reason says: the pairs are spent and this one is open; the steps are spent, but not the pairs, and this monomial can be
+  -- cancelled; or these degrees are met
+  abbrev pub IsCause : Budget → List Entry → List (Polynomial E) → Polynomial E → Why → Type 0
+  IsCause b journal list working (Pairs first second) = (b.endless ≡ false) × (b.pairs_spent ≡ b.pairs) × IsTrue (is_zero o working) × IsOpen o cmp journal list first second
+  IsCause b journal list working (Steps reducible) = (b.endless ≡ false) × (b.pairs_spent < b.pairs) × (b.steps_spent ≡ b.steps) × IsTrue (has_monomial o working reducible) × IsTrue (is_reducible o cmp list reducible)
+  IsCause b journal list working (Degree left right) = DegreeCause b journal list working left right
+
+  -- the journal is one on the polynomials given, what is at work comes of it by these steps, both are spent, and the cause holds
+  pub record Halts (given : List (Polynomial E)) (before after : Budget) (h : Halted E) : Type 0 where
+    pub journal : Journal o cmp given h.journal h.polys
+    pub taken : ℕ
+    pub at_work : IsAtWork o cmp h.journal h.polys taken h.working
+    pub spent : SpendsOn h.journal taken before after
+    pub cause : IsCause after h.journal h.polys h.working h.why
 
 -- a stop that is no want of memory halts so
 abbrev pub StopsSo : {R E : Type 0} → (Halted E → Type 0) → Stop R E → Type 0

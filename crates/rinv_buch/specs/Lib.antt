@@ -5,4 +5,3 @@ pub mod Causes
 pub mod Halting
 pub mod Runs
 pub mod Reducing
-pub mod Combining

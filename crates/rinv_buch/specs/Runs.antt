@@ -44,11 +44,6 @@ module _ {E : Type 0} (o : RingOps E) (cmp : List ℕ → List ℕ → Ordering)
     pub not_coprime : AreCoprime o cmp list i j → ⊥
     pub runs_out : RunsOut o cmp list (s_at list i j) before after working
 
-  -- its S-polynomial meets these degrees and nothing is at work, or the division of it stops at them
-  pub record MeetsDegreeAt (too_high : RingOp → E → E → ℕ → ℕ → Type 0) (list : List (Polynomial E)) (i j : ℕ) (before after : Budget) (x y : ℕ) (working : Polynomial E) : Type 0 where
-    pub not_coprime : AreCoprime o cmp list i j → ⊥
-    pub meets : (IsTrue (is_zero o working) × Spends 0 before after × SPolynomialMeets o cmp too_high (get_or list i []) (get_or list j []) x y) ⊎ MeetsDegree o cmp list (s_at list i j) too_high before after x y working
-
   -- to the list is added a polynomial that is not zero and has no monomial that can be cancelled
   pub record Grows (list more : List (Polynomial E)) : Type 0 where
     pub rest : Polynomial E
@@ -64,6 +59,12 @@ module _ {E : Type 0} (o : RingOps E) (cmp : List ℕ → List ℕ → Ordering)
   -- no least common multiple of two leading monomials is over the limit on degrees
   abbrev pub AreLow : List (Polynomial E) → Type 0
   AreLow list = (i j : ℕ) → i < j → j < length list → total_degree (lcm_at o cmp list i j) ≤ max_degree
+
+-- making the S-polynomial of the pair may answer these degrees and nothing is at work, or the division of it stops at them
+pub record MeetsDegreeAt {E : Type 0} (o : RingOps E) (is_element : E → Bool) (too_high : RingOp → E → E → ℕ → ℕ → Type 0) (v : ℕ) (cmp : List ℕ → List ℕ → Ordering) (list : List (Polynomial E)) (i j : ℕ) (before after : Budget) (x y : ℕ) (working : Polynomial E) : Type 0 where
+  pub not_coprime : AreCoprime o cmp list i j → ⊥
+  pub meets : (IsTrue (is_zero o working) × Spends 0 before after × SPolynomialMeets o is_element too_high v cmp (get_or list i []) (get_or list j []) x y)
+      ⊎ MeetsDegree o cmp list (s_at o cmp list i j) is_element too_high before after x y working
 
 -- the pairs that were taken of the elements are those of the journal, which makes the list of them; and no pair is too high
 pub record IsRun {R E : Type 0} (o : RingOps E) (is_element : E → Bool) (v : ℕ) (cmp : List ℕ → List ℕ → Ordering) (given : List (Polynomial E)) (run : Run R E) : Type 0 where

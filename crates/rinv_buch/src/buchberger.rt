@@ -43,7 +43,7 @@ pub fn basis<F: Field, O: MonoOrder>(
     ensures polys { IfOk result (λ b. All (IsNormal (F.ops ring.now.coeffs) (F.is_element ring.now.coeffs) ring.now.vars) b.polys) }
     ensures nonzero { IfOk result (λ b. AreNonzero (F.ops ring.now.coeffs) b.polys) }
     ensures groebner { IfOk result (λ b. IsGroebnerBasis (F.ops ring.now.coeffs) (O.cmp order.now) ring.now.vars given.now b.polys) }
-    ensures stop { IfErr result (StopsSo (Halts (F.ops ring.now.coeffs) (O.cmp order.now) (F.too_high ring.now.coeffs) given.now budget.old budget.new)) }
+    ensures stop { IfErr result (StopsSo (Halts (F.ops ring.now.coeffs) (F.is_element ring.now.coeffs) (F.too_high ring.now.coeffs) ring.now.vars (O.cmp order.now) given.now budget.old budget.new)) }
     ensures limits { KeepsLimits budget.old budget.new }
     ensures still_within { IsKept budget.new }
 {
@@ -70,7 +70,7 @@ fn turn<F: Field, O: MonoOrder>(
     requires within { IsKept budget.old }
     ensures run { (given : List (Polynomial F.Elem)) → Journal (F.ops ring.now.coeffs) (O.cmp order.now) given (journal_of run.journal.items) run.elements.polys.items → IfOk result (IsRun (F.ops ring.now.coeffs) (F.is_element ring.now.coeffs) ring.now.vars (O.cmp order.now) given) }
     ensures turns { IfOk result (λ r. (count : ℕ) × SpendsBoth 1 count budget.old budget.new × Turns (F.ops ring.now.coeffs) (O.cmp order.now) count run r) }
-    ensures stop { (given : List (Polynomial F.Elem)) (start : Budget) → Journal (F.ops ring.now.coeffs) (O.cmp order.now) given (journal_of run.journal.items) run.elements.polys.items → SpendsOn (journal_of run.journal.items) 0 start budget.old → IfErr result (StopsSo (Halts (F.ops ring.now.coeffs) (O.cmp order.now) (F.too_high ring.now.coeffs) given start budget.new)) }
+    ensures stop { (given : List (Polynomial F.Elem)) (start : Budget) → Journal (F.ops ring.now.coeffs) (O.cmp order.now) given (journal_of run.journal.items) run.elements.polys.items → SpendsOn (journal_of run.journal.items) 0 start budget.old → IfErr result (StopsSo (Halts (F.ops ring.now.coeffs) (F.is_element ring.now.coeffs) (F.too_high ring.now.coeffs) ring.now.vars (O.cmp order.now) given start budget.new)) }
     ensures limits { KeepsLimits budget.old budget.new }
     ensures still_within { IsKept budget.new }
 {

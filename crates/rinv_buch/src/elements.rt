@@ -1,9 +1,8 @@
 //! The list of the algorithm, with what is prepared of each element: its leading monomial, and itself as a divisor.
 
-ghost use Rattle.std.specs.Prelude.{◌≡◌, ◌<◌, ◌≤◌, ℕ, List, [], ◌∷◌, ◌++◌, length, get_or, remove, insert, map, false, All, IfOk, OnOk};
+ghost use Rattle.std.specs.Prelude.{◌≡◌, ◌<◌, [], false, All, IfOk, OnOk};
 ghost use Rattle.rinv_algebra.specs.Polynomial.{is_zero};
 ghost use Rattle.rinv_algebra.specs.Normal.{IsNormal};
-ghost use Rattle.rinv_algebra.specs.Leading.{leading_monomial};
 ghost use Rattle.rinv_groebner.specs.Journal.{nonzeros};
 ghost use Rattle.rinv_buch.specs.Elements.{ArePrepared, AddsElement};
 

@@ -47,7 +47,7 @@ impl<F: Field> Model for Basis<F> {
 pub enum Why {
     /// No pair is left in the budget, and this one was not taken.
     Pairs { first: u32, second: u32 },
-    /// No step is left in the budget, and the polynomial at work has this monomial, which can be cancelled.
+    /// No step is left in the budget, though a pair was, and the polynomial at work has this monomial, which can be cancelled.
     Steps { reducible: Mono },
     /// Two monomials of these degrees have a product, or a least common multiple, over the limit.
     Degree { left: u32, right: u32 },

@@ -1,8 +1,7 @@
-//! Gröbner bases: Buchberger's algorithm with a journal and a budget, the cofactors of its elements, and the reduced basis.
+//! Gröbner bases: Buchberger's algorithm with a journal and a budget, and the reduced basis.
 #![tactic(auto)]
 
 mod buchberger;
-mod combining;
 mod elements;
 mod halting;
 pub mod kinds;
@@ -13,6 +12,6 @@ mod settling;
 mod spending;
 
 pub use buchberger::basis;
-pub use combining::{combinations, sum_of_products};
 pub use kinds::{Basis, Entry, EntryKind, Halt, Stop, Why};
 pub use reducing::{interreduce, kept_places};
+pub use s_polynomial::{leading_term, s_polynomial_of};

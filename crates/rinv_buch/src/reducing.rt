@@ -7,14 +7,10 @@ ghost use Rattle.rinv_algebra.specs.Polynomial.{is_zero};
 ghost use Rattle.rinv_algebra.specs.Normal.{IsNormal};
 ghost use Rattle.rinv_algebra.specs.Leading.{leading_monomial};
 ghost use Rattle.rinv_groebner.specs.Basis.{IsGroebnerBasis};
-ghost use Rattle.rinv_groebner.specs.Division.{Step, IsDivision};
 ghost use Rattle.rinv_groebner.specs.Reduced.{IsReducedGroebnerBasis, IsMadeAt, IsMonicOf, Ascend, kept};
 ghost use Rattle.rinv_ring.specs.Fault.{DegreesMeet};
-ghost use Rattle.rinv_poly.specs.Faults.{OperationsMeet};
-ghost use Rattle.rinv_div.specs.Divisors.{AreDivisors};
-ghost use Rattle.rinv_div.specs.Stops.{StepsMeet};
 ghost use Rattle.rinv_buch.specs.Elements.{ArePrepared};
-ghost use Rattle.rinv_buch.specs.Reducing.{MakingMeets, ReducingMeets, AreLeadsApart, is_kept_place, kept_places};
+ghost use Rattle.rinv_buch.specs.Reducing.{MakingMeets, MonicMeets, ReducingMeets, AreLeadsApart, is_kept_place, kept_places};
 
 use crate::elements::Elements;
 use crate::kinds::Basis;
@@ -26,8 +22,8 @@ use rinv_ring::{Field, NoMemory, Ring, RingFault};
 use std::alloc::Global;
 use std::cmp::Ordering;
 
-/// The reduced Gröbner basis of the ideal of a Gröbner basis without zero, with ascending leading monomials. Degree comes only where a
-/// division that makes an element meets these degrees, or coefficients do.
+/// The reduced Gröbner basis of the ideal of a Gröbner basis without zero, with ascending leading monomials. Degree comes only where
+/// these degrees are met as a kept element is divided by the others, or as what this leaves is made monic.
 pub fn interreduce<F: Field, O: MonoOrder>(
     ring: &PolyRing<F>,
     alloc: Global,
@@ -41,7 +37,7 @@ pub fn interreduce<F: Field, O: MonoOrder>(
     ensures reduced { IfOk result (λ gs. IsReducedGroebnerBasis (F.ops ring.now.coeffs) (O.cmp order.now) ring.now.vars basis.now.polys gs.items) }
     ensures ascending { IfOk result (λ gs. Ascend (F.ops ring.now.coeffs) (O.cmp order.now) gs.items) }
     ensures normal { IfOk result (λ gs. All (IsNormal (F.ops ring.now.coeffs) (F.is_element ring.now.coeffs) ring.now.vars) gs.items) }
-    ensures degree { IfErr result (DegreesMeet (ReducingMeets (F.ops ring.now.coeffs) (O.cmp order.now) (F.too_high ring.now.coeffs) basis.now.polys)) }
+    ensures degree { IfErr result (DegreesMeet (ReducingMeets (F.ops ring.now.coeffs) (F.is_element ring.now.coeffs) (F.too_high ring.now.coeffs) ring.now.vars (O.cmp order.now) basis.now.polys)) }
 {
     let mut kept = kept_elements(ring, alloc, &basis.polys, order)?;
     let mut made = Vec::with_capacity(alloc, kept.polys.len())?;
@@ -134,7 +130,7 @@ fn made_at<F: Field, O: MonoOrder>(
     ensures same { OnOk result (elements.new.polys.items ≡ elements.old.polys.items) }
     ensures normal { IfOk result (IsNormal (F.ops ring.now.coeffs) (F.is_element ring.now.coeffs) ring.now.vars) }
     ensures made { IfOk result (IsMadeAt (F.ops ring.now.coeffs) (O.cmp order.now) elements.old.polys.items place) }
-    ensures degree { IfErr result (DegreesMeet (MakingMeets (F.ops ring.now.coeffs) (O.cmp order.now) (F.too_high ring.now.coeffs) elements.old.polys.items place)) }
+    ensures degree { IfErr result (DegreesMeet (MakingMeets (F.ops ring.now.coeffs) (F.is_element ring.now.coeffs) (F.too_high ring.now.coeffs) ring.now.vars (O.cmp order.now) elements.old.polys.items place)) }
 {
     let element = elements.polys.remove(place);
     let divisor = elements.divisors.remove(place);
@@ -158,7 +154,7 @@ fn monic<F: Field, O: MonoOrder>(
     requires suits { O.fits order.now ring.now.vars }
     ensures normal { IfOk result (IsNormal (F.ops ring.now.coeffs) (F.is_element ring.now.coeffs) ring.now.vars) }
     ensures monic { IfOk result (IsMonicOf (F.ops ring.now.coeffs) (O.cmp order.now) f.now) }
-    ensures degree { IfErr result (DegreesMeet (OperationsMeet (F.too_high ring.now.coeffs))) }
+    ensures degree { IfErr result (DegreesMeet (MonicMeets (F.ops ring.now.coeffs) (F.is_element ring.now.coeffs) (F.too_high ring.now.coeffs) ring.now.vars (O.cmp order.now) f.now)) }
 {
     let (_, c) = leading_term(ring, f, order);
     let Some(inverse) = ring.coeffs().inverse(alloc, c)? else {

@@ -1,14 +1,13 @@
 //! The S-polynomial of two polynomials: multiples whose leading terms cancel.
 
-ghost use Rattle.std.specs.Prelude.{◌≡◌, ◌≤◌, ◌+◌, ◌⊎◌, ℕ, List, [], ◌∷◌, length, false, IsTrue, IfOk, IfErr, IfSome};
+ghost use Rattle.std.specs.Prelude.{◌≡◌, ◌≤◌, length, false, IsTrue, IfOk, IfErr};
 ghost use Rattle.rinv_algebra.specs.Ring.{IsSame};
 ghost use Rattle.rinv_algebra.specs.Monomial.{lcm, total_degree, max_degree};
-ghost use Rattle.rinv_algebra.specs.Polynomial.{Term, poly_ops, term_product, is_zero};
+ghost use Rattle.rinv_algebra.specs.Polynomial.{poly_ops, term_product, is_zero};
 ghost use Rattle.rinv_algebra.specs.Normal.{IsNormal};
-ghost use Rattle.rinv_algebra.specs.Leading.{leading_monomial, leading_coefficient, multiplier, s_polynomial};
+ghost use Rattle.rinv_algebra.specs.Leading.{leading_monomial, leading_coefficient, s_polynomial};
 ghost use Rattle.rinv_ring.specs.Fault.{DegreesMeet};
-ghost use Rattle.rinv_poly.specs.Faults.{OperationsMeet};
-ghost use Rattle.rinv_div.specs.Stops.{ProductMeets};
+ghost use Rattle.rinv_poly.specs.Combined.{TermMeets};
 ghost use Rattle.rinv_buch.specs.Causes.{SPolynomialMeets};
 
 use rinv_mono::{Mono, MonoFault, MonoOrder};
@@ -17,7 +16,7 @@ use rinv_ring::{Field, NoMemory, Ring, RingFault};
 use std::alloc::Global;
 
 /// The S-polynomial of two polynomials that are not zero, where the least common multiple of their leading monomials is within the limit
-/// on degrees. Degree comes only where a multiplier and a monomial of its polynomial meet these degrees, or coefficients do.
+/// on degrees. Degree comes only where these degrees are met in a multiple of one of them, or in the difference.
 pub fn s_polynomial_of<F: Field, O: MonoOrder>(
     ring: &PolyRing<F>,
     alloc: Global,
@@ -33,7 +32,7 @@ pub fn s_polynomial_of<F: Field, O: MonoOrder>(
     requires low { total_degree (lcm (leading_monomial (F.ops ring.now.coeffs) (O.cmp order.now) f.now) (leading_monomial (F.ops ring.now.coeffs) (O.cmp order.now) g.now)) ≤ max_degree }
     ensures element { IfOk result (IsNormal (F.ops ring.now.coeffs) (F.is_element ring.now.coeffs) ring.now.vars) }
     ensures value { IfOk result (λ s. IsSame (poly_ops (F.ops ring.now.coeffs)) s (s_polynomial (F.ops ring.now.coeffs) (O.cmp order.now) f.now g.now)) }
-    ensures degree { IfErr result (DegreesMeet (SPolynomialMeets (F.ops ring.now.coeffs) (O.cmp order.now) (F.too_high ring.now.coeffs) f.now g.now)) }
+    ensures degree { IfErr result (DegreesMeet (SPolynomialMeets (F.ops ring.now.coeffs) (F.is_element ring.now.coeffs) (F.too_high ring.now.coeffs) ring.now.vars (O.cmp order.now) f.now g.now)) }
 {
     let (f_lead, f_coefficient) = leading_term(ring, f, order);
     let (g_lead, g_coefficient) = leading_term(ring, g, order);
@@ -85,7 +84,7 @@ fn multiple<F: Field>(
     requires polynomial { IsNormal (F.ops ring.now.coeffs) (F.is_element ring.now.coeffs) ring.now.vars f.now }
     ensures element { IfOk result (IsNormal (F.ops ring.now.coeffs) (F.is_element ring.now.coeffs) ring.now.vars) }
     ensures value { IfOk result (λ r. IsSame (poly_ops (F.ops ring.now.coeffs)) r (term_product (F.ops ring.now.coeffs) (mono, c.now) f.now)) }
-    ensures degree { IfErr result (DegreesMeet (λ x y. ProductMeets (F.ops ring.now.coeffs) mono f.now x y ⊎ OperationsMeet (F.too_high ring.now.coeffs) x y)) }
+    ensures degree { IfErr result (DegreesMeet (TermMeets (F.ops ring.now.coeffs) (F.is_element ring.now.coeffs) (F.too_high ring.now.coeffs) ring.now.vars (mono, c.now) f.now)) }
 {
     let mut terms = Vec::with_capacity(alloc, 1)?;
     let _degree = mono.degree();

@@ -1,6 +1,6 @@
 //! One pair: nothing is to be done where it is coprime, else its S-polynomial is divided.
 
-ghost use Rattle.std.specs.Prelude.{◌≡◌, ◌<◌, ◌≤◌, ℕ, length, IsTrue, IfOk, IfErr};
+ghost use Rattle.std.specs.Prelude.{◌≡◌, ◌<◌, ◌≤◌, length, IsTrue, IfOk, IfErr};
 ghost use Rattle.rinv_algebra.specs.Monomial.{total_degree, max_degree};
 ghost use Rattle.rinv_algebra.specs.Normal.{IsNormal};
 ghost use Rattle.rinv_groebner.specs.Settled.{lcm_at};
@@ -48,7 +48,7 @@ pub fn settle<F: Field, O: MonoOrder>(
     ensures settles { IfOk result (Settles (F.ops ring.now.coeffs) (O.cmp order.now) elements.now.polys.items pair.first pair.second) }
     ensures spent { IfOk result (λ s. Spends (steps_with s) budget.old budget.new) }
     ensures rest { IfOk result (SettlesWith (IsNormal (F.ops ring.now.coeffs) (F.is_element ring.now.coeffs) ring.now.vars)) }
-    ensures stop { IfErr result (StopsBy (RunsOutAt (F.ops ring.now.coeffs) (O.cmp order.now) elements.now.polys.items pair.first pair.second budget.old budget.new) (MeetsDegreeAt (F.ops ring.now.coeffs) (O.cmp order.now) (F.too_high ring.now.coeffs) elements.now.polys.items pair.first pair.second budget.old budget.new)) }
+    ensures stop { IfErr result (StopsBy (RunsOutAt (F.ops ring.now.coeffs) (O.cmp order.now) elements.now.polys.items pair.first pair.second budget.old budget.new) (MeetsDegreeAt (F.ops ring.now.coeffs) (F.is_element ring.now.coeffs) (F.too_high ring.now.coeffs) ring.now.vars (O.cmp order.now) elements.now.polys.items pair.first pair.second budget.old budget.new)) }
     ensures working { IfErr result (StopsBy (IsNormal (F.ops ring.now.coeffs) (F.is_element ring.now.coeffs) ring.now.vars) (λ _ _. IsNormal (F.ops ring.now.coeffs) (F.is_element ring.now.coeffs) ring.now.vars)) }
     ensures limits { KeepsLimits budget.old budget.new }
     ensures still_within { IsKept budget.new }

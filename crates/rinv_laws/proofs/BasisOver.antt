@@ -14,9 +14,9 @@ use Rattle.rinv_groebner.proofs.ListElements.{all_first}
 use Rattle.rinv_ring.specs.Fault.{DegreesMeet}
 use Rattle.rinv_ring.specs.declared.fault.RingFault.{RingFault}
 use Rattle.rinv_buch.specs.Kinds.{Found}
-use Rattle.rinv_buch.specs.Combining.{CombiningMeets}
+use Rattle.rinv_cofactors.specs.Combining.{CombiningMeets}
 use Rattle.rinv_buch.proofs.InVariables.{all-in_variables}
-use Rattle.rinv_buch.proofs.JournalSteps.{elements-nonzero}
+use Rattle.rinv_cofactors.proofs.JournalSteps.{elements-nonzero}
 use Rattle.rinv_defs.specs.System.{System, Poly, group_count}
 use Rattle.rinv_laws.specs.Group.{IsGroupBasis, never}
 

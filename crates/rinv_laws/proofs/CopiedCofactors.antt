@@ -27,8 +27,8 @@ use Rattle.rinv_ring.specs.Fault.{DegreesMeet}
 use Rattle.rinv_ring.specs.declared.fault.RingFault.{RingFault}
 use Rattle.rinv_poly.specs.Faults.{MonomialsMeet}
 use Rattle.rinv_poly.proofs.Meets.{meet-weaker}
-use Rattle.rinv_buch.specs.Combining.{ColumnMeets, column, cofactor}
-use Rattle.rinv_buch.proofs.CombinedSums.{combination-right}
+use Rattle.rinv_cofactors.specs.Combining.{ColumnMeets, column, cofactor}
+use Rattle.rinv_cofactors.proofs.CombinedSums.{combination-right}
 use Rattle.rinv_defs.specs.System.{Poly}
 use Rattle.rinv_laws.specs.Points.{ArePolynomials}
 use Rattle.rinv_laws.specs.Group.{never}

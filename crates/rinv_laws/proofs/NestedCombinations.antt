@@ -17,8 +17,8 @@ use Rattle.rinv_theory.proofs.Values.{IsMap}
 use Rattle.rinv_theory.proofs.Variables.{past_map}
 use Rattle.rinv_groebner.specs.Division.{AreSame}
 use Rattle.rinv_groebner.specs.Copies.{copies}
-use Rattle.rinv_buch.specs.Combining.{column}
-use Rattle.rinv_buch.proofs.CombinedSums.{combination-right, column-sums}
+use Rattle.rinv_cofactors.specs.Combining.{column}
+use Rattle.rinv_cofactors.proofs.CombinedSums.{combination-right, column-sums}
 
 module _ {E : Type 0} (o : RingOps E) where
   combination-split : (us fs gs : List (Polynomial E)) → combination o us (fs ++ gs) ≡ combination o (take (length fs) us) fs ++ combination o (drop (length fs) us) gs

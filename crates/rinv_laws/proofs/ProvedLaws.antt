@@ -25,8 +25,8 @@ use Rattle.rinv_div.proofs.Summed.{identity}
 use Rattle.rinv_poly.specs.Faults.{MonomialsMeet}
 use Rattle.rinv_buch.specs.Kinds.{Found}
 use Rattle.rinv_buch.specs.Reducing.{kept_places}
-use Rattle.rinv_buch.specs.Combining.{Combines, cofactor}
-use Rattle.rinv_buch.proofs.CombinedSums.{combination-right}
+use Rattle.rinv_cofactors.specs.Combining.{Combines, cofactor}
+use Rattle.rinv_cofactors.proofs.CombinedSums.{combination-right}
 use Rattle.rinv_defs.specs.System.{System, Poly, group_count, ideal_copies}
 use Rattle.rinv_defs.specs.Laws.{Law, copies}
 use Rattle.rinv_laws.specs.declared.stop.LawStop.{LawStop}

@@ -11,7 +11,7 @@ use Rattle.rinv_groebner.specs.Reduced.{kept as kept_of}
 use Rattle.rinv_poly.specs.Faults.{MonomialsMeet}
 use Rattle.rinv_buch.specs.Kinds.{Found}
 use Rattle.rinv_buch.specs.Reducing.{kept_places}
-use Rattle.rinv_buch.specs.Combining.{Combines, CombiningMeets, column, cofactor}
+use Rattle.rinv_cofactors.specs.Combining.{Combines, CombiningMeets, column, cofactor}
 use Rattle.rinv_defs.specs.System.{System, Poly, group_count, ideal_copies}
 use Rattle.rinv_defs.specs.Laws.{Law, copies, parts}
 use Rattle.rinv_defs.specs.Laws.Law.{L2, L3, L4, L5, L6, A2}

@@ -8,13 +8,13 @@ ghost use Rattle.rinv_algebra.specs.Polynomial.{poly_ops, past};
 ghost use Rattle.rinv_algebra.specs.Ideal.{combination};
 ghost use Rattle.rinv_groebner.specs.Division.{AreSame};
 ghost use Rattle.rinv_ring.specs.Fault.{DegreesMeet};
-ghost use Rattle.rinv_buch.specs.Combining.{column};
+ghost use Rattle.rinv_cofactors.specs.Combining.{column};
 ghost use Rattle.rinv_laws.specs.Points.{ArePolynomials};
 ghost use Rattle.rinv_laws.specs.Proofs.{AreInCopies, CopiesMeet, ProductsMeet, chosen, past_lists};
 
 use crate::copied::in_copy;
 use crate::points::appended;
-use rinv_buch::sum_of_products;
+use rinv_cofactors::sum_of_products;
 use rinv_poly::{KPoly, PolyRing};
 use rinv_ring::{Gf, NoMemory, RingFault};
 use std::alloc::Global;

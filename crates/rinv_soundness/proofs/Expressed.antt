@@ -27,7 +27,7 @@ use Rattle.rinv_theory.proofs.Fractions.{polynomial_fractions-into}
 use Rattle.rinv_defs.specs.System.{Poly, space_count}
 use Rattle.rinv_defs.specs.Laws.{L1, A1, AllLawsHold}
 use Rattle.rinv_defs.specs.Invariant.{Fraction, IsInvariant}
-use Rattle.rinv_defs.specs.Generators.{Expression, rational_ops, over_1, value_at, Denotes, IsExpressed, IsSound}
+use Rattle.rinv_defs.specs.Generators.{Expression, rational_ops, over_1, value_at, HasValue, IsExpressed, IsSound}
 use Rattle.rinv_defs.specs.Certificate.{Certificate, Kind, invariance, full}
 use Rattle.rinv_defs.specs.Accepted.{IsAccepted}
 use Rattle.rinv_defs.proofs.Sound.{accepted-is_invariant}
@@ -67,10 +67,10 @@ module _ (c : Certificate) (parts : FullParts c) (hold : AllLawsHold c.system) (
   value_of x = (value_hom (ops c.system) (laws c.system) (field c.system) c.fractions).at x
 
   -- from classes of polynomials in the symbols to lists
-  from_classes : (x y : Class (poly_ops (residue_ops c.system.p))) → (value_of y ≡ Rational.zero → ⊥) → Rational.mul (value_of x) (into_fractions Q) ≡ Rational.mul (into_fractions P) (value_of y) → ∥ ((e : Expression) × Denotes c.system.p c.fractions e f) ∥₁
+  from_classes : (x y : Class (poly_ops (residue_ops c.system.p))) → (value_of y ≡ Rational.zero → ⊥) → Rational.mul (value_of x) (into_fractions Q) ≡ Rational.mul (into_fractions P) (value_of y) → ∥ ((e : Expression) × HasValue c.system.p c.fractions e f) ∥₁
   unfolding value_at
-  from_classes x y = class_ind (poly_ops (ops c.system)) (poly_laws (ops c.system) (laws c.system)) (λ x. (value_of y ≡ Rational.zero → ⊥) → Rational.mul (value_of x) (into_fractions Q) ≡ Rational.mul (into_fractions P) (value_of y) → ∥ ((e : Expression) × Denotes c.system.p c.fractions e f) ∥₁) (λ x. hlevel (∥∥₁_prop {A = (e : Expression) × Denotes c.system.p c.fractions e f}))
-      (λ a. class_ind (poly_ops (ops c.system)) (poly_laws (ops c.system) (laws c.system)) (λ y. (value_of y ≡ Rational.zero → ⊥) → Rational.mul (value_of (class (poly_ops (ops c.system)) a)) (into_fractions Q) ≡ Rational.mul (into_fractions P) (value_of y) → ∥ ((e : Expression) × Denotes c.system.p c.fractions e f) ∥₁) (λ y. hlevel (∥∥₁_prop {A = (e : Expression) × Denotes c.system.p c.fractions e f}))
+  from_classes x y = class_ind (poly_ops (ops c.system)) (poly_laws (ops c.system) (laws c.system)) (λ x. (value_of y ≡ Rational.zero → ⊥) → Rational.mul (value_of x) (into_fractions Q) ≡ Rational.mul (into_fractions P) (value_of y) → ∥ ((e : Expression) × HasValue c.system.p c.fractions e f) ∥₁) (λ x. hlevel (∥∥₁_prop {A = (e : Expression) × HasValue c.system.p c.fractions e f}))
+      (λ a. class_ind (poly_ops (ops c.system)) (poly_laws (ops c.system) (laws c.system)) (λ y. (value_of y ≡ Rational.zero → ⊥) → Rational.mul (value_of (class (poly_ops (ops c.system)) a)) (into_fractions Q) ≡ Rational.mul (into_fractions P) (value_of y) → ∥ ((e : Expression) × HasValue c.system.p c.fractions e f) ∥₁) (λ y. hlevel (∥∥₁_prop {A = (e : Expression) × HasValue c.system.p c.fractions e f}))
       (λ b n e. ∣ (
         (a, b),
         record {
@@ -94,10 +94,10 @@ module _ (c : Certificate) (parts : FullParts c) (hold : AllLawsHold c.system) (
   Q_in = in_variables-of (ops c.system) (laws c.system) (space_count c.system) f.1 is.fraction.denominator
 
   -- from two rests
-  from_rests : (a b : Class (poly_ops (poly_ops (residue_ops c.system.p)))) → RestOf ((to_z (ops c.system) (laws c.system) (field c.system)).at P) a → RestOf ((to_z (ops c.system) (laws c.system) (field c.system)).at Q) b → ∥ ((e : Expression) × Denotes c.system.p c.fractions e f) ∥₁
+  from_rests : (a b : Class (poly_ops (poly_ops (residue_ops c.system.p)))) → RestOf ((to_z (ops c.system) (laws c.system) (field c.system)).at P) a → RestOf ((to_z (ops c.system) (laws c.system) (field c.system)).at Q) b → ∥ ((e : Expression) × HasValue c.system.p c.fractions e f) ∥₁
   from_rests a b rest_a rest_b = ∥∥₁_elim (zero_or_lead (polynomials (rational_ops c.system.p) (fraction_laws (ops c.system) (laws c.system) (field c.system))) (order_of later later_order) (class_dec (rational_ops c.system.p) (fraction_laws (ops c.system) (laws c.system) (field c.system))) (val c.system c.fractions b)) ∥∥₁_prop go
     where
-      go : (val c.system c.fractions b ≡ (poly_ring (rational_ops c.system.p) (fraction_laws (ops c.system) (laws c.system) (field c.system))).zero) ⊎ ((m : Monomial) × Leads (polynomials (rational_ops c.system.p) (fraction_laws (ops c.system) (laws c.system) (field c.system))) (order_of later later_order) (val c.system c.fractions b) m) → ∥ ((e : Expression) × Denotes c.system.p c.fractions e f) ∥₁
+      go : (val c.system c.fractions b ≡ (poly_ring (rational_ops c.system.p) (fraction_laws (ops c.system) (laws c.system) (field c.system))).zero) ⊎ ((m : Monomial) × Leads (polynomials (rational_ops c.system.p) (fraction_laws (ops c.system) (laws c.system) (field c.system))) (order_of later later_order) (val c.system c.fractions b) m) → ∥ ((e : Expression) × HasValue c.system.p c.fractions e f) ∥₁
       go (inl e) = absurd (∥∥₁_elim (ratios.vanishes-rest (ops c.system) (laws c.system) (field c.system) (space_count c.system) (nothing_in c.system (generators c.system parts.form) c.fractions (symbol_relations c) w) (ideal-add c.system (generators c.system parts.form)) (ideal-mul c.system (generators c.system parts.form)) c.fractions
           (in_space c.system (generators c.system parts.form) c.fractions (symbol_relations c) w) (G c.system (generators c.system parts.form) c.fractions (symbol_relations c) w) (relation_at c.system (generators c.system parts.form) c.fractions (symbol_relations c) w) (IsReducibleBy (map (λ q. q.lead) (symbol_relations c))) w.lowest
           Q_in rest_b e) (λ x y. absurd x) (lasts c.system parts.form (hold L1) (hold A1) c.fractions Q_in (nonzero-class (ops c.system) (laws c.system) f.1 is.fraction.nonzero)))
@@ -107,7 +107,7 @@ module _ (c : Certificate) (parts : FullParts c) (hold : AllLawsHold c.system) (
           P_in Q_in rest_a rest_b (crossed_member c.system parts.form f is) m)
 
   -- an invariant has an expression
-  pub expression_exists : ∥ ((e : Expression) × Denotes c.system.p c.fractions e f) ∥₁
+  pub expression_exists : ∥ ((e : Expression) × HasValue c.system.p c.fractions e f) ∥₁
   expression_exists = ∥∥₁_elim (rest_exists c parts invariant _ (in_z P_in)) ∥∥₁_prop (λ (a, rest_a). ∥∥₁_elim (rest_exists c parts invariant _ (in_z Q_in)) ∥∥₁_prop (λ (b, rest_b). from_rests a b rest_a rest_b))
     where
       in_z : {x : Class (poly_ops (residue_ops c.system.p))} → Of (polynomials (ops c.system) (laws c.system)) (IsFront (space_count c.system)) x → Of (polynomials (poly_ops (ops c.system)) (poly_laws (ops c.system) (laws c.system))) (IsFront (space_count c.system)) ((to_z (ops c.system) (laws c.system) (field c.system)).at x)
@@ -146,10 +146,10 @@ expressions : Enumeration Expression
 expressions = pairs formal_sums formal_sums
 
 -- the expression that is found, in as many symbols as there are fractions
-pub expressed : (p : ℕ) (c : List Fraction) (f : Fraction) → ∥ ((e : Expression) × Denotes p c e f) ∥₁ → IsExpressed p c f
+pub expressed : (p : ℕ) (c : List Fraction) (f : Fraction) → ∥ ((e : Expression) × HasValue p c e f) ∥₁ → IsExpressed p c f
 expressed p c f some = with_expression (searched expressions (is_denoted p c f) (∥∥₁_map some (λ (e, d). (e, tested e d))))
   where
-    tested : (e : Expression) → Denotes p c e f → is_denoted p c f e ≡ true
+    tested : (e : Expression) → HasValue p c e f → is_denoted p c f e ≡ true
     tested e d = and_true _ _ (differs _ d.defined) d.equal
       where
         differs : (b : Bool) → ¬ (IsTrue b) → not b ≡ true
@@ -161,11 +161,13 @@ expressed p c f some = with_expression (searched expressions (is_denoted p c f) 
         let parts = both (not ((rational_ops p).same (value_at p c e.1) (rational_ops p).zero)) ((rational_ops p).same ((rational_ops p).mul (value_at p c e.0) (over_1 p f.1)) ((rational_ops p).mul (over_1 p f.0) (value_at p c e.1))) t in
         record {
           expression = (cut (length c) e.0, cut (length c) e.1);
-          numerator = cut_in (length c) e.0;
-          denominator = cut_in (length c) e.1;
           denotes = record {
-            defined = λ z. true≢false (sym parts.0 ∙ ap not (ap (λ v. (rational_ops p).same v (rational_ops p).zero) (sym (cut-value p c e.1)) ∙ z));
-            equal = ap₂ (λ u v. (rational_ops p).same ((rational_ops p).mul u (over_1 p f.1)) ((rational_ops p).mul (over_1 p f.0) v)) (cut-value p c e.0) (cut-value p c e.1) ∙ parts.1;
+            numerator = cut_in (length c) e.0;
+            denominator = cut_in (length c) e.1;
+            value = record {
+              defined = λ z. true≢false (sym parts.0 ∙ ap not (ap (λ v. (rational_ops p).same v (rational_ops p).zero) (sym (cut-value p c e.1)) ∙ z));
+              equal = ap₂ (λ u v. (rational_ops p).same ((rational_ops p).mul u (over_1 p f.1)) ((rational_ops p).mul (over_1 p f.0) v)) (cut-value p c e.0) (cut-value p c e.1) ∙ parts.1;
+            };
           };
         }
 

@@ -27,7 +27,7 @@ use Rattle.rinv_theory.proofs.Fields.{fraction_laws}
 use Rattle.rinv_theory.proofs.Fractions.{polynomial_fractions-into}
 use Rattle.rinv_defs.specs.System.{System, Poly, group_count, space_count}
 use Rattle.rinv_defs.specs.Invariant.{Fraction, IsFraction}
-use Rattle.rinv_defs.specs.Generators.{rational_ops, value_at, Denotes}
+use Rattle.rinv_defs.specs.Generators.{rational_ops, value_at, HasValue}
 use Rattle.rinv_defs.specs.Extended.{Relation, relation_poly, action_ideal, InExtendedIdeal}
 use Rattle.rinv_soundness.specs.Rewriting.{SymbolPoly, SymbolRelation, symbol_poly, at_fractions, in_z, IsTied, IsSymbolBasis, IsRestBy}
 use Rattle.rinv_soundness.proofs.FirstVariables.{low_or_high}
@@ -166,7 +166,7 @@ module _ (s : System) where
 
     -- the coefficients of the rests of P(Z) and Q(Z) at a monomial denote an invariant P/Q, where the second has a value
     pub rest-denotes : (f : Fraction) → IsFraction s f → InIdeal s fs (crossed (ops s) (laws s) (field s) (space_count s) (class (poly_ops (ops s)) f.0) (class (poly_ops (ops s)) f.1)) → (a b : SymbolPoly) → IsRestBy s qs (in_z s.p f.0) a → IsRestBy s qs (in_z s.p f.1) b
-        → (m : List ℕ) → ¬ (IsSame (rational_ops s.p) (value_at s.p c (coefficient (poly_ops (residue_ops s.p)) b m)) (rational_ops s.p).zero) → Denotes s.p c (coefficient (poly_ops (residue_ops s.p)) a m, coefficient (poly_ops (residue_ops s.p)) b m) f
+        → (m : List ℕ) → ¬ (IsSame (rational_ops s.p) (value_at s.p c (coefficient (poly_ops (residue_ops s.p)) b m)) (rational_ops s.p).zero) → HasValue s.p c (coefficient (poly_ops (residue_ops s.p)) a m, coefficient (poly_ops (residue_ops s.p)) b m) f
     rest-denotes f in_f member a b rest_a rest_b m defined = record {
       defined = defined;
       equal = class_exact (rational_ops s.p) rational_laws _ _ (

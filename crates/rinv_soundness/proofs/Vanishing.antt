@@ -19,7 +19,7 @@ use Rattle.rinv_defs.specs.System.{System, Poly, group_count, space_count}
 use Rattle.rinv_defs.specs.SystemForm.{IsSystem}
 use Rattle.rinv_defs.specs.Laws.{L1, A1, AllLawsHold, LawHolds}
 use Rattle.rinv_defs.specs.Invariant.{Fraction, IsInvariant}
-use Rattle.rinv_defs.specs.Generators.{over_1, rational_ops, value_at, Denotes}
+use Rattle.rinv_defs.specs.Generators.{over_1, rational_ops, value_at, HasValue}
 use Rattle.rinv_defs.specs.Extended.{graph, action_ideal, Vanishes}
 use Rattle.rinv_theory.proofs.Of.{Of}
 use Rattle.rinv_soundness.proofs.ActionIdeals.{generators}
@@ -70,5 +70,5 @@ module _ (s : System) where
 
   -- rewriting by relations with symbols for the reduced basis
   pub basis-denotes : (c : List Fraction) (qs : List SymbolRelation) (f : Fraction) (a b : SymbolPoly) (m : List ℕ) → IsSystem s → IsSymbolBasis s c qs → IsInvariant s f → IsRestBy s qs (in_z s.p f.0) a → IsRestBy s qs (in_z s.p f.1) b
-      → ¬ (IsSame (rational_ops s.p) (value_at s.p c (coefficient (poly_ops (residue_ops s.p)) b m)) (rational_ops s.p).zero) → Denotes s.p c (coefficient (poly_ops (residue_ops s.p)) a m, coefficient (poly_ops (residue_ops s.p)) b m) f
+      → ¬ (IsSame (rational_ops s.p) (value_at s.p c (coefficient (poly_ops (residue_ops s.p)) b m)) (rational_ops s.p).zero) → HasValue s.p c (coefficient (poly_ops (residue_ops s.p)) a m, coefficient (poly_ops (residue_ops s.p)) b m) f
   basis-denotes c qs f a b m system basis invariant rest_a rest_b defined = rest-denotes s (action_ideal s) c qs (symbol_basis s c qs basis) f invariant.fraction (∥∥₁_map (crossed_member s (system_form s system) f invariant) (in-left (ops s) (laws s) (s.ideal ++ graph s) (map (past (group_count s)) s.section))) a b rest_a rest_b m defined

@@ -11,7 +11,7 @@ ghost use Rattle.rinv_defs.specs.System.{System, Poly, space_count};
 ghost use Rattle.rinv_defs.specs.SystemForm.{IsSystem};
 ghost use Rattle.rinv_defs.specs.Laws.{AllLawsHold};
 ghost use Rattle.rinv_defs.specs.Invariant.{Fraction, IsInvariant};
-ghost use Rattle.rinv_defs.specs.Generators.{rational_ops, value_at, Denotes, IsSound};
+ghost use Rattle.rinv_defs.specs.Generators.{rational_ops, value_at, HasValue, IsSound};
 ghost use Rattle.rinv_defs.specs.Certificate.{Certificate, full};
 ghost use Rattle.rinv_defs.specs.Accepted.{IsAccepted};
 ghost use Rattle.rinv_defs.specs.Extended.{Vanishes};
@@ -31,7 +31,7 @@ pub fn rewriting()
         let o = residue_ops s.p in
         IsSystem s → IsSymbolBasis s c qs → IsInvariant s f → IsRestBy s qs (in_z s.p f.0) a → IsRestBy s qs (in_z s.p f.1) b →
         ¬ (IsSame (rational_ops s.p) (value_at s.p c (coefficient (poly_ops o) b m)) (rational_ops s.p).zero) →
-        Denotes s.p c (coefficient (poly_ops o) a m, coefficient (poly_ops o) b m) f }
+        HasValue s.p c (coefficient (poly_ops o) a m, coefficient (poly_ops o) b m) f }
     ensures found { (s : System) (c : List Fraction) (qs : List SymbolRelation) (q : Poly) (b : SymbolPoly) →
         let o = residue_ops s.p in
         IsSymbolBasis s c qs → IsTrue (is_in_variables (space_count s) q) → IsRestBy s qs (in_z s.p q) b → ¬ (Vanishes s q) →
@@ -51,7 +51,7 @@ pub fn certificate_rewriting()
         let o = residue_ops s.p in
         c.kind ≡ full → IsAccepted c → IsInvariant s f → IsRestBy s (symbol_relations c) (in_z s.p f.0) a → IsRestBy s (symbol_relations c) (in_z s.p f.1) b →
         ¬ (IsSame (rational_ops s.p) (value_at s.p c.fractions (coefficient (poly_ops o) b m)) (rational_ops s.p).zero) →
-        Denotes s.p c.fractions (coefficient (poly_ops o) a m, coefficient (poly_ops o) b m) f }
+        HasValue s.p c.fractions (coefficient (poly_ops o) a m, coefficient (poly_ops o) b m) f }
     ensures found { (c : Certificate) (q : Poly) (b : SymbolPoly) →
         let s = c.system in
         let o = residue_ops s.p in

@@ -6,7 +6,8 @@ ghost use Rattle.rinv_algebra.specs.Residue.{residue_ops};
 ghost use Rattle.rinv_buch.specs.Spent.{IsKept};
 
 use crate::tables::{Term, are_lists, nonzero};
-use rinv_buch::{Basis, EntryKind, Stop, Why, basis, combinations, interreduce};
+use rinv_buch::{Basis, EntryKind, Stop, Why, basis, interreduce};
+use rinv_cofactors::combinations;
 use rinv_div::Budget;
 use rinv_mono::Grevlex;
 use rinv_poly::{KPoly, PolyRing};

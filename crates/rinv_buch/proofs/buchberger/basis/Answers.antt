@@ -15,7 +15,7 @@ use Rattle.rinv_buch.proofs.buchberger.basis.Goals as goal
 pub returns-in_err-run-clause-stop : goal.returns-in_err-run-clause-stop
 returns-in_err-run-clause-stop g c =
     let p = err_from_is_err_and c.from_residual.result c.from_residual.ensures.1 in
-    rw (p.1, p.2) (start-halts (g.F.Ring.ops c.args.ring.now.coeffs) (g.O.MonoOrder.cmp c.args.order.now) (g.F.Ring.too_high c.args.ring.now.coeffs) c.args.given.now c.args.budget.now
+    rw (p.1, p.2) (start-halts (g.F.Ring.ops c.args.ring.now.coeffs) (g.F.Ring.is_element c.args.ring.now.coeffs) (g.F.Ring.too_high c.args.ring.now.coeffs) c.args.ring.now.vars (g.O.MonoOrder.cmp c.args.order.now) c.args.given.now c.args.budget.now
     (spends-nothing c.args.budget.now (omega arith) (omega arith)) _ c.in_err-run.ensures.stop)
 
 pub pairs-init : goal.pairs-init

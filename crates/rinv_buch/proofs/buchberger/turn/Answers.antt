@@ -9,21 +9,23 @@ use Rattle.rinv_buch.proofs.buchberger.turn.Goals as goal
 
 pub returns-then-is_out_of_pairs-clause-stop : goal.returns-then-is_out_of_pairs-clause-stop
 returns-then-is_out_of_pairs-clause-stop g c = λ given start made spent.
-    halts-idle (g.F.Ring.ops c.args.ring.now.coeffs) (g.O.MonoOrder.cmp c.args.order.now) (g.F.Ring.too_high c.args.ring.now.coeffs) given c.args.run.elements.polys.items (journal_of c.args.run.journal.items) made
+    halts-idle (g.F.Ring.ops c.args.ring.now.coeffs) (g.F.Ring.is_element c.args.ring.now.coeffs) (g.F.Ring.too_high c.args.ring.now.coeffs) c.args.ring.now.vars (g.O.MonoOrder.cmp c.args.order.now) given c.args.run.elements.polys.items (journal_of c.args.run.journal.items) made
     start c.args.budget.now c.args.pair.first c.args.pair.second spent c.requires.within (c.is_out_of_pairs.ensures.spent c.if-is_out_of_pairs.true) c.requires.taking.open_pair c.halted_idle.result c.halted_idle.ensures
 
 pub returns-in-Err-clause-stop : goal.returns-in-Err-clause-stop
 returns-in-Err-clause-stop g c = λ given start made spent.
-    halts-in_division (g.F.Ring.ops c.args.ring.now.coeffs) (g.O.MonoOrder.cmp c.args.order.now) (g.F.Ring.too_high c.args.ring.now.coeffs) given c.args.run.elements.polys.items (journal_of c.args.run.journal.items) made
-    start c.args.budget.now c.settle.new.budget c.args.pair.first c.args.pair.second spent c.requires.taking.open_pair c.in-Err.stop c.in-Err.ensures.stop c.halted_in_division.result c.halted_in_division.ensures
+    halts-in_division (g.F.Ring.ops c.args.ring.now.coeffs) (g.F.Ring.is_element c.args.ring.now.coeffs) (g.F.Ring.too_high c.args.ring.now.coeffs) c.args.ring.now.vars (g.O.MonoOrder.cmp c.args.order.now) given c.args.run.elements.polys.items (journal_of c.args.run.journal.items) made
+    start c.args.budget.now c.settle.new.budget c.args.pair.first c.args.pair.second spent (c.is_out_of_pairs.ensures.left c.if-is_out_of_pairs.false) c.requires.taking.open_pair c.in-Err.stop c.in-Err.ensures.stop c.halted_in_division.result c.halted_in_division.ensures
 
 pub returns-clause-stop : goal.returns-clause-stop
 returns-clause-stop g c = λ given start made spent.
     let o = g.F.Ring.ops c.args.ring.now.coeffs in
     let cmp = g.O.MonoOrder.cmp c.args.order.now in
+    let e = g.F.Ring.is_element c.args.ring.now.coeffs in
+    let v = c.args.ring.now.vars in
     let too_high = g.F.Ring.too_high c.args.ring.now.coeffs in
     let journal = journal_of c.args.run.journal.items in
     let count = steps_with c.in-Ok.outcome in
-    IfErr-weaker c.entered.result (StopsSo (HaltsAfter o cmp given journal count)) (StopsSo (Halts o cmp too_high given start c.count_pair.new.budget))
-    (λ s p. after-halts o cmp too_high given journal count start c.count_pair.new.budget (λ e of_it. spends-entry journal e count spent of_it (spends-pair count c.in-Ok.ensures.spent c.count_pair.ensures)) s p)
+    IfErr-weaker c.entered.result (StopsSo (HaltsAfter o cmp given journal count)) (StopsSo (Halts o e too_high v cmp given start c.count_pair.new.budget))
+    (λ s p. after-halts o e too_high v cmp given journal count start c.count_pair.new.budget (λ entry of_it. spends-entry journal entry count spent of_it (spends-pair count c.in-Ok.ensures.spent c.count_pair.ensures)) s p)
     (c.entered.ensures.stop given made)

@@ -33,7 +33,7 @@ returns-in_err-element-clause-degree g c =
     let cmp = g.O.MonoOrder.cmp c.args.order.now in
     let count : length c.in_ok-kept.kept.polys.items ≡ length (kept (g.F.Ring.ops c.args.ring.now.coeffs) cmp c.args.basis.now.polys) = ap length (c.in_ok-kept.ensures.kept ∙ ap (kept (g.F.Ring.ops c.args.ring.now.coeffs) cmp) (c.deref.ensures.value ∙ ap (λ (b : Found _). b.polys) c.basis.view_is)) in
     let p = err_from_is_err_and c.from_residual-in_err-element.result c.from_residual-in_err-element.ensures.1 in
-    rw (p.1, p.2) (making-meets o cmp (g.F.Ring.too_high c.args.ring.now.coeffs) c.args.basis.now.polys c.places.kept.polys.items c.places.place c.places.invariant.same (omega (arith, c.places-test.true, c.len-place-end.ensures, count, ap length c.places.invariant.same)) _ c.in_err-element.ensures.degree)
+    rw (p.1, p.2) (making-meets o cmp (g.F.Ring.is_element c.args.ring.now.coeffs) (g.F.Ring.too_high c.args.ring.now.coeffs) c.args.ring.now.vars c.args.basis.now.polys c.places.kept.polys.items c.places.place c.places.invariant.same (omega (arith, c.places-test.true, c.len-place-end.ensures, count, ap length c.places.invariant.same)) _ c.in_err-element.ensures.degree)
 
 pub insert-requires-clause-nonzero : goal.insert-requires-clause-nonzero
 insert-requires-clause-nonzero g c =

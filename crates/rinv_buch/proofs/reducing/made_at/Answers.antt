@@ -1,7 +1,11 @@
 use Rattle.std.proofs.Common.{◌∙◌, refl, arith, []}
 use Rattle.std.proofs.lemmas.List.{get_or_read}
+use Rattle.std.proofs.lemmas.Result.{err_from_is_err_and}
+use Rattle.rinv_poly.proofs.Meets.{meet-weaker}
+use Rattle.rinv_div.specs.Stops.{StepsMeet}
+use Rattle.rinv_buch.specs.Reducing.{MonicMeets, MakingMeets}
 use Rattle.rinv_buch.proofs.Inserted.{orders_in}
-use Rattle.rinv_buch.proofs.Makings.{division-at, made-at, rest_remains}
+use Rattle.rinv_buch.proofs.Makings.{division-at, made-at, rest_remains, dividing-meets, monic-meets}
 use Rattle.rinv_buch.proofs.TakenOut.{put-back, divisors-taken, divisors-nonzero, prepared-same}
 use Rattle.rinv_buch.proofs.reducing.made_at.Goals as goal
 
@@ -38,3 +42,30 @@ returns-clause-made g c =
     let hs = c.args.elements.now.polys.items in
     made-at (g.F.Ring.ops c.args.ring.now.coeffs) (g.O.MonoOrder.cmp c.args.order.now) hs c.deref.result.now c.args.place c.remove-element.result c.in_ok-division.division.quotients.items c.in_ok-division.division.rest (c.deref.ensures.value ∙ c.remove-element.ensures.items)
     (get_or_read hs c.args.place c.remove-element.result c.requires.inside c.remove-element.ensures.value []) c.in_ok-division.ensures.division c.in_ok-made.made c.in_ok-made.ensures.monic
+
+pub returns-in_err-division-clause-degree : goal.returns-in_err-division-clause-degree
+returns-in_err-division-clause-degree g c =
+    let o = g.F.Ring.ops c.args.ring.now.coeffs in
+    let e = g.F.Ring.is_element c.args.ring.now.coeffs in
+    let high = g.F.Ring.too_high c.args.ring.now.coeffs in
+    let v = c.args.ring.now.vars in
+    let cmp = g.O.MonoOrder.cmp c.args.order.now in
+    let hs = c.args.elements.now.polys.items in
+    let taken = get_or_read hs c.args.place c.remove-element.result c.requires.inside c.remove-element.ensures.value [] in
+    let p = err_from_is_err_and c.from_residual.result c.from_residual.ensures.1 in
+    rw (p.1, p.2) (meet-weaker (StepsMeet o cmp c.deref.result.now c.remove-element.result e high) (MakingMeets o e high v cmp hs c.args.place)
+    (dividing-meets o e high v cmp hs c.deref.result.now c.args.place c.remove-element.result (c.deref.ensures.value ∙ c.remove-element.ensures.items) taken) c.in_err-division.field-0.0 c.in_err-division.ensures.degree)
+
+pub returns-in_err-made-clause-degree : goal.returns-in_err-made-clause-degree
+returns-in_err-made-clause-degree g c =
+    let o = g.F.Ring.ops c.args.ring.now.coeffs in
+    let e = g.F.Ring.is_element c.args.ring.now.coeffs in
+    let high = g.F.Ring.too_high c.args.ring.now.coeffs in
+    let v = c.args.ring.now.vars in
+    let cmp = g.O.MonoOrder.cmp c.args.order.now in
+    let hs = c.args.elements.now.polys.items in
+    let taken = get_or_read hs c.args.place c.remove-element.result c.requires.inside c.remove-element.ensures.value [] in
+    let p = err_from_is_err_and c.from_residual-in_err-made.result c.from_residual-in_err-made.ensures.1 in
+    rw (p.1, p.2) (meet-weaker (MonicMeets o e high v cmp c.in_ok-division.division.rest) (MakingMeets o e high v cmp hs c.args.place)
+    (monic-meets o cmp hs c.deref.result.now c.args.place c.remove-element.result c.in_ok-division.division.quotients.items c.in_ok-division.division.rest (c.deref.ensures.value ∙ c.remove-element.ensures.items) taken c.in_ok-division.ensures.division e high v c.in_ok-division.ensures.rest)
+    c.in_err-made.field-0.0 c.in_err-made.ensures.degree)

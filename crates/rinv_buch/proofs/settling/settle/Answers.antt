@@ -29,9 +29,11 @@ returns-in-Err-clause-stop g c =
     let off = not-coprime o cmp hs c.args.elements.now.leads.items c.requires.prepared.leads i j c.index.result.now c.index-2.result.now c.requires.ascending c.requires.inside c.index.ensures c.index-2.ensures (sym c.coprime.ensures ∙ c.if-coprime.false) in
     let f = element-at hs i c.index-3.result.now (omega (arith, c.requires.ascending, c.requires.inside)) c.index-3.ensures in
     let h = element-at hs j c.index-4.result.now c.requires.inside c.index-4.ensures in
+    let e = g.F.Ring.is_element c.args.ring.now.coeffs in
     let high = g.F.Ring.too_high c.args.ring.now.coeffs in
-    stops-idle o cmp hs i j off high c.args.budget.now c.in-Err.fault c.before_division.result c.before_division.ensures.fault c.before_division.ensures.idle
-    (subst₂ (λ (x y : Polynomial _). DegreesMeet (SPolynomialMeets o cmp high x y) c.in-Err.fault) f h c.in-Err.ensures.degree) c.steps_left-own.ensures.none_spent
+    let v = c.args.ring.now.vars in
+    stops-idle o cmp hs i j off e high v c.args.budget.now c.in-Err.fault c.before_division.result c.before_division.ensures.fault c.before_division.ensures.idle
+    (subst₂ (λ (x y : Polynomial _). DegreesMeet (SPolynomialMeets o e high v cmp x y) c.in-Err.fault) f h c.in-Err.ensures.degree) c.steps_left-own.ensures.none_spent
 
 pub returns-in_err-division-clause-stop : goal.returns-in_err-division-clause-stop
 returns-in_err-division-clause-stop g c =
@@ -55,7 +57,7 @@ returns-in_err-division-clause-stop g c =
       counted = c.count_steps.ensures;
     } in
     let p = err_from_is_err_and c.from_residual.result c.from_residual.ensures.1 in
-    rw (p.1, p.2) (stops-dividing o cmp hs i j off (g.F.Ring.laws c.args.ring.now.coeffs) c.in-Ok.s same c.args.budget.now c.steps_left-own.result c.divide_by-division.new.steps c.count_steps.new.budget own high c.in_err-division.field-0.0 (rw c.deref.ensures.value at c.in_err-division.ensures.stop))
+    rw (p.1, p.2) (stops-dividing o cmp hs i j off (g.F.Ring.laws c.args.ring.now.coeffs) c.in-Ok.s same c.args.budget.now c.steps_left-own.result c.divide_by-division.new.steps c.count_steps.new.budget own (g.F.Ring.is_element c.args.ring.now.coeffs) high c.args.ring.now.vars c.in_err-division.field-0.0 (rw c.deref.ensures.value at c.in_err-division.ensures.stop))
 
 pub returns-clause-settles : goal.returns-clause-settles
 returns-clause-settles g c =

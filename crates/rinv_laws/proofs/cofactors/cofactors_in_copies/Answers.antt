@@ -5,7 +5,7 @@ use Rattle.rinv_algebra.specs.Residue.{residue_ops}
 use Rattle.rinv_algebra.specs.Polynomial.{poly_ops}
 use Rattle.rinv_algebra.specs.Ideal.{combination}
 use Rattle.rinv_ring.specs.Fault.{DegreesMeet}
-use Rattle.rinv_buch.specs.Combining.{column}
+use Rattle.rinv_cofactors.specs.Combining.{column}
 use Rattle.rinv_defs.specs.System.{Poly}
 use Rattle.rinv_laws.specs.Proofs.{AreInCopies, ProductsMeet}
 use Rattle.rinv_laws.proofs.CopiedCofactors.{copies-none, copies-more, copy-meets, list-at, part-of}

@@ -7,8 +7,8 @@ use Rattle.rinv_algebra.specs.Residue.{residue_ops}
 use Rattle.rinv_algebra.specs.Polynomial.{poly_ops}
 use Rattle.rinv_algebra.specs.Normal.{IsNormal}
 use Rattle.rinv_algebra.specs.Ideal.{combination}
-use Rattle.rinv_buch.specs.Combining.{column}
-use Rattle.rinv_buch.proofs.Cofactors.{each-more}
+use Rattle.rinv_cofactors.specs.Combining.{column}
+use Rattle.rinv_cofactors.proofs.Cofactors.{each-more}
 use Rattle.rinv_defs.specs.System.{Poly}
 use Rattle.rinv_laws.proofs.CopiedCofactors.{products-meet}
 use Rattle.rinv_laws.proofs.cofactors.sums_of_products.Goals as goal

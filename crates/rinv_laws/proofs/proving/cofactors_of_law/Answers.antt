@@ -3,7 +3,7 @@ use Rattle.std.proofs.lemmas.List.{length-map, length_push, map_push}
 use Rattle.std.proofs.lemmas.List.Elements.{All-map}
 use Rattle.std.proofs.lemmas.Result.{err_from_is_err_and}
 use Rattle.rinv_ring.specs.Fault.{DegreesMeet}
-use Rattle.rinv_buch.proofs.Cofactors.{each-more}
+use Rattle.rinv_cofactors.proofs.Cofactors.{each-more}
 use Rattle.rinv_text.specs.Told.{Told}
 use Rattle.rinv_defs.specs.System.{Poly}
 use Rattle.rinv_defs.specs.Laws.{copies}

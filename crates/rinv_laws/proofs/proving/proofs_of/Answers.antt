@@ -7,7 +7,7 @@ use Rattle.rinv_algebra.specs.Order.{grevlex}
 use Rattle.rinv_ring.specs.Fault.{DegreesMeet}
 use Rattle.rinv_poly.proofs.Meets.{meet-weaker}
 use Rattle.rinv_sub.proofs.Sums.{take-at}
-use Rattle.rinv_buch.specs.Combining.{CombiningMeets}
+use Rattle.rinv_cofactors.specs.Combining.{CombiningMeets}
 use Rattle.rinv_defs.specs.System.{Poly}
 use Rattle.rinv_defs.specs.Laws.{Law, copies}
 use Rattle.rinv_laws.specs.LawNames.{law_of, variables_of}

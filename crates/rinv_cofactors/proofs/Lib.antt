@@ -1,0 +1,4 @@
+pub mod CombinedSums
+pub mod JournalSteps
+pub mod Cofactors
+pub mod PairMultipliers

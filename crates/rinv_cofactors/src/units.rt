@@ -1,0 +1,69 @@
+//! Unit lists: the cofactors of polynomials that are given, over themselves.
+
+ghost use Rattle.std.specs.Prelude.{◌≡◌, ◌<◌, [], length, map, All, IfOk};
+ghost use Rattle.std.specs.List.{AllZip};
+ghost use Rattle.rinv_algebra.specs.Ring.{IsSame};
+ghost use Rattle.rinv_algebra.specs.Polynomial.{poly_ops};
+ghost use Rattle.rinv_algebra.specs.Normal.{IsNormal};
+ghost use Rattle.rinv_groebner.specs.Division.{AreSame};
+ghost use Rattle.rinv_cofactors.specs.Combining.{unit, units};
+
+use rinv_poly::{Poly, PolyRing};
+use rinv_ring::{Field, NoMemory, Ring};
+use std::alloc::Global;
+
+// For each polynomial that is not zero the list with one at its place and zero at the others.
+pub fn unit_lists<F: Field>(
+    ring: &PolyRing<F>,
+    alloc: Global,
+    given: &[Poly<F>],
+) -> Result<Vec<Vec<Poly<F>>>, NoMemory>
+    requires { All (IsNormal (F.ops ring.now.coeffs) (F.is_element ring.now.coeffs) ring.now.vars) given.now }
+    ensures lengths { IfOk result (λ ls. All (λ us. length us.items ≡ length given.now) ls.items) }
+    ensures normal { IfOk result (λ ls. All (λ us. All (IsNormal (F.ops ring.now.coeffs) (F.is_element ring.now.coeffs) ring.now.vars) us.items) ls.items) }
+    ensures units { IfOk result (λ ls. AllZip (AreSame (F.ops ring.now.coeffs)) (map (λ us. us.items) ls.items) (units (F.ops ring.now.coeffs) given.now)) }
+{
+    let mut lists = Vec::new(alloc);
+    'places: for place in 0..given.len() {
+        if !ring.is_zero(&given[place]) {
+            let list = unit_list(ring, alloc, given.len(), place)?;
+            lists.push(list)?;
+        }
+    }
+    Ok(lists)
+}
+
+// So many polynomials, one at the place and zero at the others.
+fn unit_list<F: Field>(
+    ring: &PolyRing<F>,
+    alloc: Global,
+    count: usize,
+    place: usize,
+) -> Result<Vec<Poly<F>>, NoMemory>
+    requires { place < count }
+    ensures length { IfOk result (λ us. length us.items ≡ count) }
+    ensures normal { IfOk result (λ us. All (IsNormal (F.ops ring.now.coeffs) (F.is_element ring.now.coeffs) ring.now.vars) us.items) }
+    ensures unit { IfOk result (λ us. AreSame (F.ops ring.now.coeffs) us.items (unit (F.ops ring.now.coeffs) count place)) }
+{
+    let mut list = zeros(ring, alloc, count)?;
+    list[place] = ring.one(alloc)?;
+    Ok(list)
+}
+
+// So many zeros.
+fn zeros<F: Field>(
+    ring: &PolyRing<F>,
+    alloc: Global,
+    count: usize,
+) -> Result<Vec<Poly<F>>, NoMemory>
+    ensures length { IfOk result (λ us. length us.items ≡ count) }
+    ensures normal { IfOk result (λ us. All (IsNormal (F.ops ring.now.coeffs) (F.is_element ring.now.coeffs) ring.now.vars) us.items) }
+    ensures zero { IfOk result (λ us. All (λ u. IsSame (poly_ops (F.ops ring.now.coeffs)) u []) us.items) }
+{
+    let mut list = Vec::with_capacity(alloc, count)?;
+    'zeros: while list.len() < count {
+        let zero = ring.zero(alloc)?;
+        list.push(zero)?;
+    }
+    Ok(list)
+}

@@ -1,0 +1,110 @@
+//! Over a field the degree of a product is the sum of the degrees: whether products fit is known before any is formed.
+
+ghost use Rattle.std.specs.Prelude.{◌≡◌, ◌⊎◌, ◌<◌, ◌≤◌, ◌+◌, ◌*◌, ℕ, false, true, List, length, All, IfOk, IfErr, OnOk};
+ghost use Rattle.rinv_algebra.specs.Ring.{IsSame};
+ghost use Rattle.rinv_algebra.specs.Monomial.{max_degree};
+ghost use Rattle.rinv_algebra.specs.Polynomial.{poly_ops, constant, is_zero};
+ghost use Rattle.rinv_algebra.specs.Normal.{IsNormal};
+ghost use Rattle.rinv_algebra.specs.Value.{factors, substitute};
+ghost use Rattle.rinv_algebra.specs.Fits.{substitution_fits};
+ghost use Rattle.rinv_ring.specs.Fault.{DegreesMeet};
+ghost use Rattle.rinv_sub.specs.Refusal.{ProductsMeet, SubstitutionMeets};
+
+use crate::bounds::greatest_degree;
+use crate::substitution::substitute;
+use rinv_mono::Mono;
+use rinv_poly::{Poly, PolyRing};
+use rinv_ring::{Field, Ring, RingFault};
+use std::alloc::Global;
+
+/// The same as `substitute`, over a field. Here Degree comes before anything is multiplied: it carries the degree of the first product
+/// that does not fit with its next factor, and the degree of this factor.
+pub fn substitute_over_field<R: Field>(
+    from: &PolyRing<R>,
+    alloc: Global,
+    f: &Poly<R>,
+    to: &PolyRing<R>,
+    images: &[Poly<R>],
+) -> Result<Poly<R>, RingFault>
+    requires coeffs { from.now.coeffs ≡ to.now.coeffs }
+    requires polynomial { IsNormal (R.ops from.now.coeffs) (R.is_element from.now.coeffs) from.now.vars f.now }
+    requires many { length images.now ≡ from.now.vars }
+    requires images { All (IsNormal (R.ops to.now.coeffs) (R.is_element to.now.coeffs) to.now.vars) images.now }
+    ensures element { IfOk result (λ r. IsNormal (R.ops to.now.coeffs) (R.is_element to.now.coeffs) to.now.vars r) }
+    ensures value { IfOk result (λ r. IsSame (poly_ops (R.ops to.now.coeffs)) r (substitute (R.ops to.now.coeffs) images.now f.now)) }
+    ensures fits { OnOk result (substitution_fits (R.ops to.now.coeffs) images.now f.now ≡ true) }
+    ensures degree { IfErr result (DegreesMeet (SubstitutionMeets (R.ops to.now.coeffs) (R.is_element to.now.coeffs) (R.too_high to.now.coeffs) to.now.vars images.now f.now)) }
+{
+    check_terms(from, f, to, images)?;
+    let value = substitute(from, alloc, f, to, images)?;
+    Ok(value)
+}
+
+// Whether the images can be put for the variables; the degrees at the first product that does not fit.
+fn check_terms<R: Field>(
+    from: &PolyRing<R>,
+    f: &Poly<R>,
+    to: &PolyRing<R>,
+    images: &[Poly<R>],
+) -> Result<(), RingFault>
+    requires coeffs { from.now.coeffs ≡ to.now.coeffs }
+    requires polynomial { IsNormal (R.ops from.now.coeffs) (R.is_element from.now.coeffs) from.now.vars f.now }
+    requires many { length images.now ≡ from.now.vars }
+    requires images { All (IsNormal (R.ops to.now.coeffs) (R.is_element to.now.coeffs) to.now.vars) images.now }
+    ensures { IfErr result (DegreesMeet (SubstitutionMeets (R.ops to.now.coeffs) (R.is_element to.now.coeffs) (R.too_high to.now.coeffs) to.now.vars images.now f.now)) }
+{
+    'terms: for k in 0..from.len(f) {
+        check_term(to, from.mono(f, k), images)?;
+    }
+    Ok(())
+}
+
+// The same for the value of a term, whatever its coefficient. A power of zero ends its products: they are zero.
+fn check_term<R: Field>(
+    ring: &PolyRing<R>,
+    mono: &Mono,
+    images: &[Poly<R>],
+) -> Result<(), RingFault>
+    requires many { length images.now ≡ length mono.now }
+    requires images { All (IsNormal (R.ops ring.now.coeffs) (R.is_element ring.now.coeffs) ring.now.vars) images.now }
+    ensures { IfErr result (DegreesMeet (λ x y. (c : R.Elem) → (R.ops ring.now.coeffs).same c (R.ops ring.now.coeffs).zero ≡ false → ProductsMeet (R.ops ring.now.coeffs) (R.is_element ring.now.coeffs) (R.too_high ring.now.coeffs) ring.now.vars (constant (R.ops ring.now.coeffs) c) (factors images.now mono.now) x y)) }
+{
+    let _limit = mono.degree();
+    let mut degree = 0;
+    'images: for k in 0..mono.vars() {
+        let exponent = mono.exponent(k);
+        let image = &images[k as usize];
+        if is_zero_power(ring, image, exponent) {
+            return Ok(());
+        }
+        degree = degree_with(degree, exponent, greatest_degree(image))?;
+    }
+    Ok(())
+}
+
+// Whether the power of the polynomial is zero.
+fn is_zero_power<R: Ring>(ring: &PolyRing<R>, f: &Poly<R>, exponent: u32) -> bool
+    requires { IsNormal (R.ops ring.now.coeffs) (R.is_element ring.now.coeffs) ring.now.vars f.now }
+    ensures { result ≡ false → (exponent ≡ 0) ⊎ (is_zero (R.ops ring.now.coeffs) f.now ≡ false) }
+{
+    exponent > 0 && ring.is_zero(f)
+}
+
+// The degree with so many factors of degree `each` more; or the degree with the last of them that fits, and their degree.
+fn degree_with(degree: u32, exponent: u32, each: u32) -> Result<u32, RingFault>
+    requires low { degree ≤ max_degree }
+    requires exponent { exponent ≤ max_degree }
+    requires each { each ≤ max_degree }
+    ensures value { IfOk result (λ n. n ≡ degree + exponent * each) }
+    ensures low { IfOk result (λ n. n ≤ max_degree) }
+    ensures meets { IfErr result (DegreesMeet (λ x y. (y ≡ each) × (j : ℕ) × (j < exponent) × (x ≡ degree + j * each) × (max_degree < x + each))) }
+{
+    if exponent * each <= 10000 - degree {
+        return Ok(degree + exponent * each);
+    }
+    let fitting = (10000 - degree) / each;
+    Err(RingFault::Degree {
+        left: degree + fitting * each,
+        right: each,
+    })
+}
