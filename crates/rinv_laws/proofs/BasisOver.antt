@@ -18,7 +18,9 @@ use Rattle.rinv_cofactors.specs.Combining.{CombiningMeets}
 use Rattle.rinv_buch.proofs.InVariables.{all-in_variables}
 use Rattle.rinv_cofactors.proofs.JournalSteps.{elements-nonzero}
 use Rattle.rinv_defs.specs.System.{System, Poly, group_count}
-use Rattle.rinv_laws.specs.Group.{IsGroupBasis, never}
+use Rattle.rinv_laws.specs.Group.{IsGroupBasis}
+use Rattle.rinv_laws.specs.Proofs.{BasisMeets}
+use Rattle.rinv_sub.specs.Refusal.{never}
 
 -- the list of the group's basis, in the ring and over the polynomials with which it is computed
 pub record IsBasisOver (found : Found ℕ) (p v : ℕ) (fs : List Poly) : Type 0 where
@@ -42,8 +44,9 @@ basis-over s found gs h ideal p v fs a b c =
     }
 
 -- the degrees that the making of its cofactors meets
-pub combining-over : (s : System) (found : Found ℕ) (p : ℕ) (fs : List Poly) → p ≡ s.p → fs ≡ s.ideal → (fault : RingFault) → DegreesMeet (CombiningMeets (residue_ops p) grevlex never fs found.journal found.polys) fault
-    → DegreesMeet (CombiningMeets (residue_ops s.p) grevlex never s.ideal found.journal found.polys) fault
-combining-over s found p fs a c fault meets =
-    subst (λ (q : ℕ). DegreesMeet (CombiningMeets (residue_ops q) grevlex never s.ideal found.journal found.polys) fault) a
-    (subst (λ (hs : List Poly). DegreesMeet (CombiningMeets (residue_ops p) grevlex never hs found.journal found.polys) fault) c meets)
+pub combining-over : (s : System) (found : Found ℕ) (p v : ℕ) (fs : List Poly) → p ≡ s.p → v ≡ group_count s → fs ≡ s.ideal → (fault : RingFault)
+    → DegreesMeet (CombiningMeets (residue_ops p) (λ c. nat_lt c p) never v grevlex fs found.journal found.polys) fault → DegreesMeet (BasisMeets s found) fault
+combining-over s found p v fs a b c fault meets =
+    subst (λ (q : ℕ). DegreesMeet (CombiningMeets (residue_ops q) (λ c. nat_lt c q) never (group_count s) grevlex s.ideal found.journal found.polys) fault) a
+    (subst (λ (w : ℕ). DegreesMeet (CombiningMeets (residue_ops p) (λ c. nat_lt c p) never w grevlex s.ideal found.journal found.polys) fault) b
+    (subst (λ (hs : List Poly). DegreesMeet (CombiningMeets (residue_ops p) (λ c. nat_lt c p) never v grevlex hs found.journal found.polys) fault) c meets))

@@ -27,11 +27,12 @@ use Rattle.rinv_ring.specs.Fault.{DegreesMeet}
 use Rattle.rinv_ring.specs.declared.fault.RingFault.{RingFault}
 use Rattle.rinv_poly.specs.Faults.{MonomialsMeet}
 use Rattle.rinv_poly.proofs.Meets.{meet-weaker}
-use Rattle.rinv_cofactors.specs.Combining.{ColumnMeets, column, cofactor}
+use Rattle.rinv_poly.specs.Combined.{ProductsSumMeet}
+use Rattle.rinv_cofactors.specs.Combining.{column, cofactor}
 use Rattle.rinv_cofactors.proofs.CombinedSums.{combination-right}
 use Rattle.rinv_defs.specs.System.{Poly}
-use Rattle.rinv_laws.specs.Points.{ArePolynomials}
-use Rattle.rinv_laws.specs.Group.{never}
+use Rattle.rinv_parts.specs.Points.{ArePolynomials}
+use Rattle.rinv_sub.specs.Refusal.{never}
 use Rattle.rinv_laws.specs.Proofs.{AreInCopies, CopiesMeet, ProductsMeet, chosen, past_lists, quotients_in}
 
 module _ {E : Type 0} (o : RingOps E) (l : RingLaws o) where
@@ -147,11 +148,28 @@ module _ (p v n count : ℕ) (F : ℕ → List (List Poly)) (qs : List Poly) whe
       one_more : {a b : ℕ} → a ≡ c * n → b ≡ n → a + b ≡ (c + 1) * n
       one_more e f = omega (arith, e, f)
 
--- the degrees that a sum of products meets
-pub products-meet : (p : ℕ) (qs : List Poly) (lists : List (List Poly)) (m : ℕ) (fault : RingFault) → DegreesMeet (ColumnMeets (residue_ops p) never qs lists m) fault → DegreesMeet (ProductsMeet p qs lists) fault
-products-meet p qs lists m fault meets = meet-weaker (ColumnMeets (residue_ops p) never qs lists m) (ProductsMeet p qs lists) (λ x y h. elim h [
-  | inl (k, at) ↦ record { element = k; given = m; meets = at }
-  | inr (op, (a, b, none)) ↦ absurd none
+-- a cofactor of a column
+column-at : (lists : List (List Poly)) (k m : ℕ) → get_or (column lists m) k [] ≡ cofactor lists k m
+column-at [] zero m = nothing m
+  where
+    nothing : (m : ℕ) → [] ≡ get_or {A = Poly} [] m []
+    nothing zero = refl
+    nothing (suc m) = refl
+column-at [] (suc k) m = nothing m
+  where
+    nothing : (m : ℕ) → [] ≡ get_or {A = Poly} [] m []
+    nothing zero = refl
+    nothing (suc m) = refl
+column-at (us ∷ lists) zero m = refl
+column-at (us ∷ lists) (suc k) m = column-at lists k m
+
+-- the degrees that a sum of products meets: numbers modulo a prime meet none
+pub products-meet : (p v : ℕ) (qs : List Poly) (lists : List (List Poly)) (m : ℕ) (fault : RingFault) → DegreesMeet (ProductsSumMeet (residue_ops p) (λ c. nat_lt c p) never v qs (column lists m)) fault → DegreesMeet (ProductsMeet p qs lists) fault
+products-meet p v qs lists m fault meets = meet-weaker (ProductsSumMeet (residue_ops p) (λ c. nat_lt c p) never v qs (column lists m)) (ProductsMeet p qs lists) (λ x y h. elim h [
+  | inl (k, few, inl at) ↦ record { element = k; given = m; meets = subst (λ (f : Poly). MonomialsMeet (residue_ops p) (get_or qs k []) f x y) (column-at lists k m) at }
+  | inl (k, few, inr (inl (n, c, is, none))) ↦ absurd none.meets
+  | inl (k, few, inr (inr (terms, worked, none))) ↦ absurd none.meets
+  | inr (stored, all, none) ↦ absurd none.meets
 ]) fault meets
 
 -- and those that one copy meets

@@ -1,18 +1,20 @@
 -- Chosen elements of a list, in copies of their variables.
 --   chosen-one, chosen-is    a chosen element
+--   mapped-more          one value more
 --   copies-more          one copy more
 --   chosen-map           the chosen elements, each in its copy
 --   copied-nonzero       no zero among what is the same as the copies
-use Rattle.std.proofs.Common.{◌≡◌, ℕ, zero, suc, ◌+◌, ◌*◌, ◌<◌, false, not, List, [], ◌∷◌, ◌++◌, map, length, get_or, refl, sym, ◌∙◌, ap, subst, All, append-nil, append_assoc, add-zero, add-one, arith}
+use Rattle.std.proofs.Common.{◌≡◌, ℕ, zero, suc, ◌+◌, ◌*◌, ◌<◌, false, not, List, [], ◌∷◌, ◌++◌, map, length, take, get_or, refl, sym, ◌∙◌, ap, subst, All, append-nil, append_assoc, add-zero, add-one, arith}
 use Rattle.std.specs.Prelude.{flat_map}
 use Rattle.std.specs.List.{list_all, range_with_len}
-use Rattle.std.proofs.lemmas.List.{get_or_default}
-use Rattle.std.proofs.lemmas.List.Elements.{All-head, All-tail}
-use Rattle.rinv_algebra.specs.Ring.{RingOps, RingLaws}
+use Rattle.std.proofs.lemmas.List.{get_or_default, map-append}
+use Rattle.std.proofs.lemmas.List.Elements.{All-head, All-tail, AllZip-push}
+use Rattle.rinv_algebra.specs.Ring.{RingOps, RingLaws, IsSame}
 use Rattle.rinv_algebra.specs.Polynomial.{Polynomial, poly_ops, is_zero, past}
 use Rattle.rinv_algebra.proofs.PolynomialLaws.{poly_laws}
 use Rattle.rinv_algebra.proofs.Same.{both, and_true}
 use Rattle.rinv_algebra.proofs.Degrees.{same-left}
+use Rattle.rinv_sub.proofs.Sums.{take-at}
 use Rattle.rinv_groebner.specs.Division.{AreSame}
 use Rattle.rinv_groebner.specs.Basis.{AreNonzero}
 use Rattle.rinv_groebner.specs.Copies.{copies}
@@ -49,6 +51,13 @@ chosen-map k hs [] = refl
 chosen-map k hs (i ∷ places) = ap (λ gs. past k (get_or hs i []) ∷ gs) (chosen-map k hs places)
 
 module _ {E : Type 0} (o : RingOps E) (l : RingLaws o) where
+  -- one value more
+  pub mapped-more : {X : Type 0} (value : X → Polynomial E) (xs : List X) (k : ℕ) (x : X) (fs : List (Polynomial E)) (f : Polynomial E) → k < length xs → x ≡ get_or xs k x
+      → AreSame o fs (map value (take k xs)) → IsSame (poly_ops o) f (value x) → AreSame o (fs ++ f ∷ []) (map value (take (k + 1) xs))
+  mapped-more value xs k x fs f few at so_far here =
+      subst (λ (gs : List (Polynomial E)). AreSame o (fs ++ f ∷ []) gs) (sym (ap (λ ys. map value ys) (take-at xs k x few at) ∙ map-append value (take k xs) (x ∷ [])))
+      (AllZip-push (IsSame (poly_ops o)) fs (map value (take k xs)) f (value x) so_far here)
+
   chosen-nonzero : (hs : List (Polynomial E)) (places : List ℕ) → All (λ h. is_zero o h ≡ false) hs → All (λ k. k < length hs) places → AreNonzero o (map (λ k. get_or hs k []) places)
   chosen-nonzero hs [] n inside = refl
   chosen-nonzero hs (k ∷ places) n inside =

@@ -5,7 +5,7 @@ use Rattle.std.proofs.Common.{◌≡◌, ℕ, ◌<◌, [], sym, subst, inl, inr,
 use Rattle.std.proofs.lemmas.Bool.{cases_lt}
 use Rattle.rinv_defs.specs.System.{System, Poly}
 use Rattle.rinv_defs.specs.Laws.{Law, LawHolds}
-use Rattle.rinv_laws.specs.LawNames.{rank}
+use Rattle.rinv_parts.specs.LawNames.{rank}
 use Rattle.rinv_laws.specs.Faults.{IsFirstFault}
 use Rattle.rinv_laws.proofs.LawsInTurn.{same-rank}
 

@@ -26,7 +26,7 @@ use Rattle.rinv_text.proofs.SystemParts.{parts-of}
 use Rattle.rinv_defs.specs.System.{System, Poly, group_count, ideal_copies}
 use Rattle.rinv_defs.specs.SystemForm.{IsSystem}
 use Rattle.rinv_defs.specs.Laws.{Law, copies}
-use Rattle.rinv_laws.specs.LawNames.{space_in, variables_of}
+use Rattle.rinv_parts.specs.LawNames.{space_in, variables_of}
 use Rattle.rinv_laws.specs.Copied.{kept_copies}
 use Rattle.rinv_laws.specs.Group.{IsGroupBasis}
 use Rattle.rinv_laws.proofs.KeptBasis.{passes-kept, kept-basis, same-basis}

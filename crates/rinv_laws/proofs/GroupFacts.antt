@@ -15,7 +15,7 @@ use Rattle.rinv_groebner.proofs.ReducedLists.{basis-of}
 use Rattle.rinv_defs.specs.System.{System, Poly, group_count}
 use Rattle.rinv_buch.specs.Kinds.{Found}
 use Rattle.rinv_laws.specs.Group.{IsGroupBasis}
-use Rattle.rinv_laws.proofs.Computed.{over}
+use Rattle.rinv_parts.proofs.Stored.{normal-over as over}
 
 over-ideal : (p v : ℕ) (fs hs gs : List Poly) → IsGroebnerBasis (residue_ops p) grevlex v fs hs → IsReducedGroebnerBasis (residue_ops p) grevlex v hs gs → IsReducedGroebnerBasis (residue_ops p) grevlex v fs gs
 over-ideal p v fs hs gs b r = record {

@@ -17,7 +17,7 @@ use Rattle.rinv_ring.specs.declared.fault.RingFault.{RingFault}
 use Rattle.rinv_poly.proofs.Meets.{meet-weaker}
 use Rattle.rinv_defs.specs.System.{System, Poly, group_count}
 use Rattle.rinv_defs.specs.Laws.{Law, copies}
-use Rattle.rinv_laws.specs.LawNames.{variables_of}
+use Rattle.rinv_parts.specs.LawNames.{variables_of}
 use Rattle.rinv_laws.specs.Proofs.{AreInCopies, CopiesMeet, MakingMeets, in_copy, past_lists}
 use Rattle.rinv_laws.proofs.CopiedCofactors.{same-copy, over-copies}
 use Rattle.rinv_laws.proofs.ProvedLaws.{copies-making}

@@ -9,9 +9,9 @@ use Rattle.rinv_buch.specs.Kinds.{Found}
 use Rattle.rinv_defs.specs.System.{System, Poly}
 use Rattle.rinv_defs.specs.Laws.{Law, all_laws, LawHolds, AllLawsHold}
 use Rattle.rinv_defs.specs.Laws.Law.{L1, L2, L3, L4, L5, L6, A1, A2}
-use Rattle.rinv_laws.specs.declared.law.LawName.{LawName}
-use Rattle.rinv_laws.specs.declared.law.LawName.TheVariants.{L1 as N1, L2 as N2, L3 as N3, L4 as N4, L5 as N5, L6 as N6, A1 as M1, A2 as M2}
-use Rattle.rinv_laws.specs.LawNames.{law_of, rank}
+use Rattle.rinv_parts.specs.declared.law.LawName.{LawName}
+use Rattle.rinv_parts.specs.declared.law.LawName.TheVariants.{L1 as N1, L2 as N2, L3 as N3, L4 as N4, L5 as N5, L6 as N6, A1 as M1, A2 as M2}
+use Rattle.rinv_parts.specs.LawNames.{law_of, rank}
 use Rattle.rinv_laws.specs.Copied.{AreQuotients, AreAllQuotients}
 
 -- the law at a place

@@ -1,5 +1,3 @@
-pub mod PointFacts
-pub mod Computed
 pub mod GroupFacts
 pub mod NestedCombinations
 pub mod CopiedCofactors
@@ -9,8 +7,6 @@ pub mod BasisOver
 pub mod KeptBasis
 pub mod GroupCopies
 pub mod CopiedFacts
-pub mod PartCounts
-pub mod PartsInTurn
 pub mod TestedLaws
 pub mod LawsInTurn
 pub mod FirstFaults

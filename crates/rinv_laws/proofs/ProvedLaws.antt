@@ -31,9 +31,10 @@ use Rattle.rinv_defs.specs.System.{System, Poly, group_count, ideal_copies}
 use Rattle.rinv_defs.specs.Laws.{Law, copies}
 use Rattle.rinv_laws.specs.declared.stop.LawStop.{LawStop}
 use Rattle.rinv_laws.specs.declared.stop.LawStop.TheVariants.{Fault, Degree, NoMemory}
-use Rattle.rinv_laws.specs.LawNames.{rank, variables_of}
-use Rattle.rinv_laws.specs.Points.{ArePolynomials}
-use Rattle.rinv_laws.specs.Copied.{AreQuotients, DividesPart, kept_copies, part_at}
+use Rattle.rinv_parts.specs.LawNames.{rank, variables_of}
+use Rattle.rinv_parts.specs.Points.{ArePolynomials}
+use Rattle.rinv_parts.specs.Parts.{part_at}
+use Rattle.rinv_laws.specs.Copied.{AreQuotients, DividesPart, kept_copies}
 use Rattle.rinv_laws.specs.Faults.{LawStopsSo}
 use Rattle.rinv_laws.specs.Proofs.{AreInCopies, AreMadeOf, CofactorMeets, CopiesMeet, KeepCofactors, MakingMeets, chosen, ProvesLaw, ProvesPart, in_copy, kept_elements}
 use Rattle.rinv_laws.proofs.NestedCombinations.{copies-combination, copies-length}

@@ -11,12 +11,9 @@ use Rattle.rinv_div.specs.Stops.{Divides}
 use Rattle.rinv_buch.specs.Kinds.{Found}
 use Rattle.rinv_defs.specs.System.{System, Poly, group_count}
 use Rattle.rinv_defs.specs.Laws.{Law, copies, parts}
-use Rattle.rinv_laws.specs.LawNames.{rank, variables_of}
-use Rattle.rinv_laws.specs.Points.{ArePolynomials}
-
--- the part of a law at a place, counted from 0
-abbrev pub part_at : System → Law → ℕ → Poly
-part_at s law k = get_or (parts s law) k []
+use Rattle.rinv_parts.specs.LawNames.{rank, variables_of}
+use Rattle.rinv_parts.specs.Parts.{part_at}
+use Rattle.rinv_parts.specs.Points.{ArePolynomials}
 
 -- the kept elements of the group's basis, in the first c copies of the group's variables
 abbrev pub kept_copies : System → Found ℕ → ℕ → List Poly
@@ -35,11 +32,15 @@ pub record DividesPart (s : System) (found : Found ℕ) (law : Law) (k : ℕ) (q
   pub steps : List (Step ℕ)
   pub divides : Divides (residue_ops s.p) grevlex hs f qs rest steps
 
+-- division of it leaves nothing, with these quotients
+abbrev pub IsZeroPart : System → Found ℕ → Law → ℕ → List Poly → Type 0
+IsZeroPart s found law k qs = (rest : Poly) × DividesPart s found law k qs rest × IsTrue (is_zero (residue_ops s.p) rest)
+
 -- the quotients of each part of the law, whose division leaves nothing
 pub record AreQuotients (s : System) (found : Found ℕ) (law : Law) (lists : List (List Poly)) : Type 0 where
   pub number : length lists ≡ length (parts s law)
   pub normal : All (ArePolynomials s.p (variables_of s law)) lists
-  pub each : (k : ℕ) → k < length lists → (rest : Poly) × DividesPart s found law k (get_or lists k []) rest × IsTrue (is_zero (residue_ops s.p) rest)
+  pub each : (k : ℕ) → k < length lists → IsZeroPart s found law k (get_or lists k [])
 
 -- those of all laws, law after law
 pub record AreAllQuotients (s : System) (found : Found ℕ) (lists : List (List (List Poly))) : Type 0 where

@@ -1,7 +1,6 @@
 -- What the test of the laws answers where it does not find that all hold.
-use Rattle.std.specs.Prelude.{◌≡◌, ℕ, ◌+◌, ◌<◌, false, List, length, nat_lt, ⊤}
+use Rattle.std.specs.Prelude.{ℕ, ◌<◌, List, length, nat_lt, ⊤}
 use Rattle.rinv_algebra.specs.Residue.{residue_ops}
-use Rattle.rinv_algebra.specs.Monomial.{max_degree}
 use Rattle.rinv_algebra.specs.Order.{grevlex}
 use Rattle.rinv_algebra.specs.Normal.{IsNormal}
 use Rattle.rinv_algebra.specs.Ideal.{IsMember}
@@ -12,10 +11,10 @@ use Rattle.rinv_defs.specs.Laws.{Law, copies, parts, LawHolds}
 use Rattle.rinv_defs.specs.Rest.{IsRest}
 use Rattle.rinv_laws.specs.declared.stop.LawStop.{LawStop}
 use Rattle.rinv_laws.specs.declared.stop.LawStop.TheVariants.{Fault, Degree, NoMemory}
-use Rattle.rinv_laws.specs.LawNames.{law_of, rank, variables_of}
-use Rattle.rinv_laws.specs.Parts.{parts_fit}
-use Rattle.rinv_laws.specs.Copied.{part_at, IsAsked}
-use Rattle.rinv_laws.specs.Group.{never}
+use Rattle.rinv_parts.specs.LawNames.{law_of, rank, variables_of}
+use Rattle.rinv_parts.specs.Parts.{part_at, part_meets}
+use Rattle.rinv_laws.specs.Copied.{IsAsked}
+use Rattle.rinv_sub.specs.Refusal.{never}
 
 -- the part lies in the ideal of the points of which the law speaks
 abbrev pub PartHolds : System → Law → ℕ → Type 0
@@ -30,6 +29,12 @@ pub record HoldsUpTo (s : System) (law : Law) (k : ℕ) : Type 0 where
   pub laws : HoldBefore s law
   pub parts : (j : ℕ) → j < k → PartHolds s law j
 
+-- a part that is false, and its rest in the variables of the law
+pub record IsFalsePart (s : System) (law : Law) (k : ℕ) (rest : Poly) : Type 0 where
+  pub fails : ¬ (PartHolds s law k)
+  pub is_rest : IsRest s.p (part_at s law k) (ideal_copies s (copies law)) rest
+  pub normal : IsNormal (residue_ops s.p) (λ c. nat_lt c s.p) (variables_of s law) rest
+
 -- the first part that is false, and its rest
 pub record IsFirstFault (s : System) (law : Law) (k : ℕ) (rest : Poly) : Type 0 where
   pub inside : k < length (parts s law)
@@ -37,11 +42,18 @@ pub record IsFirstFault (s : System) (law : Law) (k : ℕ) (rest : Poly) : Type 
   pub false_part : ¬ (PartHolds s law k)
   pub is_rest : IsRest s.p (part_at s law k) (ideal_copies s (copies law)) rest
 
--- the test of the laws meets these degrees: in the substitutions of a law's parts, or in the division of a part
-pub data TestMeets (s : System) (found : Found ℕ) (x y : ℕ) : Type 0 where
-  in_parts : (law : Law) → HoldBefore s law → max_degree < x + y → parts_fit s law ≡ false → TestMeets s found x y
-  in_division : (law : Law) (k : ℕ) (f : Poly) (hs : List Poly) → HoldsUpTo s law k → k < length (parts s law) → IsAsked s found law k f hs
-      → StepsMeet (residue_ops s.p) grevlex hs f never x y → TestMeets s found x y
+-- the test of a part meets these degrees: in the substitutions by which it is made, or in its division
+pub data PartMeets (s : System) (found : Found ℕ) (law : Law) (k : ℕ) (x y : ℕ) : Type 0 where
+  in_substitution : part_meets s law k x y → PartMeets s found law k x y
+  in_division : (f : Poly) (hs : List Poly) → IsAsked s found law k f hs → StepsMeet (residue_ops s.p) grevlex hs f (λ c. nat_lt c s.p) never x y → PartMeets s found law k x y
+
+-- the test of the laws meets these degrees: all before a part holds, and the test of this part meets them
+pub record TestMeets (s : System) (found : Found ℕ) (x y : ℕ) : Type 0 where
+  pub law : Law
+  pub k : ℕ
+  pub inside : k < length (parts s law)
+  pub before : HoldsUpTo s law k
+  pub meets : PartMeets s found law k x y
 
 -- a fault is the first one, with its rest in the variables of the law, and degrees are met so; want of memory says nothing
 abbrev pub LawStopsSo : System → (ℕ → ℕ → Type 0) → LawStop → Type 0

@@ -7,7 +7,7 @@ use Rattle.rinv_algebra.specs.Normal.{IsNormal}
 use Rattle.rinv_defs.specs.System.{System, Poly, group_count}
 use Rattle.rinv_groebner.specs.Journal.{Journal, IsComplete}
 use Rattle.rinv_groebner.specs.Reduced.{IsReducedGroebnerBasis, Ascend}
-use Rattle.rinv_ring.specs.Operation.{RingOp}
+use Rattle.rinv_sub.specs.Refusal.{never}
 use Rattle.rinv_div.specs.declared.budget.Budget.{Budget}
 use Rattle.rinv_buch.specs.declared.kinds.Why.TheVariants.{Degree}
 use Rattle.rinv_buch.specs.Kinds.{Found, Halted}
@@ -24,10 +24,6 @@ pub record IsGroupBasis (s : System) (found : Found ℕ) (reduced : List Poly) :
   pub ascending : Ascend (residue_ops s.p) grevlex reduced
   pub reduced_normal : All (IsNormal (residue_ops s.p) (λ c. nat_lt c s.p) (group_count s)) reduced
 
--- numbers modulo a prime have no degrees
-abbrev pub never : RingOp → ℕ → ℕ → ℕ → ℕ → Type 0
-never op a b x y = ⊥
-
 -- the list is whole, and the making of its reduced basis meets these degrees
 pub record HaltsReducing (s : System) (before after : Budget) (h : Halted ℕ) : Type 0 where
   pub journal : Journal (residue_ops s.p) grevlex s.ideal h.journal h.polys
@@ -37,8 +33,8 @@ pub record HaltsReducing (s : System) (before after : Budget) (h : Halted ℕ) :
   pub left : ℕ
   pub right : ℕ
   pub why : h.why ≡ Degree left right
-  pub meets : ReducingMeets (residue_ops s.p) grevlex never h.polys left right
+  pub meets : ReducingMeets (residue_ops s.p) (λ c. nat_lt c s.p) never (group_count s) grevlex h.polys left right
 
 -- the run on the group's ideal halts, in its pairs or in the making of the reduced basis
 abbrev pub HaltsInGroup : System → Budget → Budget → Halted ℕ → Type 0
-HaltsInGroup s before after h = Halts (residue_ops s.p) grevlex never s.ideal before after h ⊎ HaltsReducing s before after h
+HaltsInGroup s before after h = Halts (residue_ops s.p) (λ c. nat_lt c s.p) never (group_count s) grevlex s.ideal before after h ⊎ HaltsReducing s before after h

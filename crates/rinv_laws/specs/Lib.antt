@@ -1,6 +1,3 @@
-pub mod LawNames
-pub mod Points
-pub mod Parts
 pub mod Group
 pub mod Copied
 pub mod Faults

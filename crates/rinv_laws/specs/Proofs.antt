@@ -1,5 +1,5 @@
 -- How the laws are proved: cofactors of each part over the copies of the group's ideal.
-use Rattle.std.specs.Prelude.{◌≡◌, ◌⊎◌, ℕ, ◌+◌, ◌*◌, ◌<◌, List, [], ◌∷◌, length, get_or, take, drop, map, All}
+use Rattle.std.specs.Prelude.{◌≡◌, ◌⊎◌, ℕ, ◌+◌, ◌*◌, ◌<◌, List, [], ◌∷◌, length, get_or, take, drop, map, nat_lt, All}
 use Rattle.rinv_algebra.specs.Ring.{IsSame}
 use Rattle.rinv_algebra.specs.Residue.{residue_ops}
 use Rattle.rinv_algebra.specs.Order.{grevlex}
@@ -13,12 +13,13 @@ use Rattle.rinv_buch.specs.Kinds.{Found}
 use Rattle.rinv_buch.specs.Reducing.{kept_places}
 use Rattle.rinv_cofactors.specs.Combining.{Combines, CombiningMeets, column, cofactor}
 use Rattle.rinv_defs.specs.System.{System, Poly, group_count, ideal_copies}
-use Rattle.rinv_defs.specs.Laws.{Law, copies, parts}
+use Rattle.rinv_defs.specs.Laws.{Law, AllLawsHold, copies, parts}
 use Rattle.rinv_defs.specs.Laws.Law.{L2, L3, L4, L5, L6, A2}
-use Rattle.rinv_laws.specs.LawNames.{variables_of}
-use Rattle.rinv_laws.specs.Points.{ArePolynomials}
-use Rattle.rinv_laws.specs.Copied.{part_at, DividesPart}
-use Rattle.rinv_laws.specs.Group.{never}
+use Rattle.rinv_parts.specs.LawNames.{variables_of}
+use Rattle.rinv_parts.specs.Points.{ArePolynomials}
+use Rattle.rinv_parts.specs.Parts.{part_at}
+use Rattle.rinv_laws.specs.Copied.{DividesPart}
+use Rattle.rinv_sub.specs.Refusal.{never}
 
 -- the laws that speak of points, in their order
 abbrev pub proved_laws : List Law
@@ -102,6 +103,10 @@ pub record ProvesLaw (s : System) (found : Found ℕ) (law : Law) (arrays : List
   pub number : length arrays ≡ length (parts s law)
   pub each : (k : ℕ) → k < length arrays → ProvesPart s found law k (get_or arrays k [])
 
+-- the making of the cofactors of the basis meets these degrees
+abbrev pub BasisMeets : System → Found ℕ → ℕ → ℕ → Type 0
+BasisMeets s found x y = CombiningMeets (residue_ops s.p) (λ c. nat_lt c s.p) never (group_count s) grevlex s.ideal found.journal found.polys x y
+
 -- a quotient of a part times a cofactor of its element, in its copy, meets these degrees
 pub record CofactorMeets (s : System) (found : Found ℕ) (x y : ℕ) : Type 0 where
   pub law : Law
@@ -121,9 +126,9 @@ pub record CofactorMeets (s : System) (found : Found ℕ) (x y : ℕ) : Type 0 w
   pub is_cofactor : IsSame (poly_ops (residue_ops s.p)) f (past (copy * group_count s) (cofactor lists element given))
   pub meets : MonomialsMeet (residue_ops s.p) (get_or quotients (copy * length lists + element) []) f x y
 
--- the making of the cofactors of the basis meets these degrees, or that of a part's
+-- once all laws hold, the making of the cofactors of the basis meets these degrees, or that of a part's
 abbrev pub ProofsMeet : System → Found ℕ → ℕ → ℕ → Type 0
-ProofsMeet s found x y = CombiningMeets (residue_ops s.p) grevlex never s.ideal found.journal found.polys x y ⊎ CofactorMeets s found x y
+ProofsMeet s found x y = AllLawsHold s × (BasisMeets s found x y ⊎ CofactorMeets s found x y)
 
 -- the arrays are the cofactors in a law's copies, made of quotients for each part
 pub record AreMadeOf (s : System) (law : Law) (lists quotients arrays : List (List Poly)) : Type 0 where

@@ -9,11 +9,10 @@ ghost use Rattle.rinv_algebra.specs.Ideal.{combination};
 ghost use Rattle.rinv_groebner.specs.Division.{AreSame};
 ghost use Rattle.rinv_ring.specs.Fault.{DegreesMeet};
 ghost use Rattle.rinv_cofactors.specs.Combining.{column};
-ghost use Rattle.rinv_laws.specs.Points.{ArePolynomials};
+ghost use Rattle.rinv_parts.specs.Points.{ArePolynomials};
 ghost use Rattle.rinv_laws.specs.Proofs.{AreInCopies, CopiesMeet, ProductsMeet, chosen, past_lists};
 
-use crate::copied::in_copy;
-use crate::points::appended;
+use crate::copied::{appended, in_copy};
 use rinv_cofactors::sum_of_products;
 use rinv_poly::{KPoly, PolyRing};
 use rinv_ring::{Gf, NoMemory, RingFault};

@@ -9,9 +9,8 @@ ghost use Rattle.rinv_algebra.specs.Normal.{IsNormal};
 ghost use Rattle.rinv_groebner.specs.Division.{AreSame};
 ghost use Rattle.rinv_groebner.specs.Copies.{copies as copied};
 ghost use Rattle.rinv_div.specs.Divisors.{AreDivisors};
-ghost use Rattle.rinv_laws.specs.Points.{ArePolynomials};
+ghost use Rattle.rinv_parts.specs.Points.{ArePolynomials};
 
-use crate::points::appended;
 use rinv_div::{Divisors, divisors_of};
 use rinv_mono::Grevlex;
 use rinv_poly::{KPoly, PolyRing};
@@ -24,6 +23,16 @@ use std::alloc::Global;
 pub(crate) struct CopiedBasis {
     pub(crate) polys: Vec<KPoly>,
     pub(crate) divisors: Divisors<Gf>,
+}
+
+// The polynomials of a list, and then those of another.
+pub(crate) fn appended(first: Vec<KPoly>, second: Vec<KPoly>) -> Result<Vec<KPoly>, NoMemory>
+    ensures { IfOk result (λ r. r.items ≡ first.items ++ second.items) }
+{
+    let mut whole = first;
+    let mut rest = second;
+    whole.append(&mut rest)?;
+    Ok(whole)
 }
 
 // The polynomial in a copy of its variables, counted from 0, in the ring of a law.

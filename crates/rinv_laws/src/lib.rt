@@ -1,20 +1,21 @@
 //! The laws of a group and of its action, tested by ideal membership.
+//!
+//! - `group_basis`: the Gröbner basis of the group's ideal, and the reduced one
+//! - `test_laws`: whether the laws hold, or the first part that is false
+//! - `check_laws`: the same, with cofactors that prove each part
+//! - `faults`: there is one first fault
 #![tactic(auto)]
 
 mod cofactors;
 mod copied;
 pub mod faults;
 mod group;
-mod law;
-mod parts;
-mod points;
 mod proving;
 mod stop;
 mod testing;
 
 pub use group::{GroupBasis, group_basis};
-pub use law::LawName;
-pub use parts::parts_of;
 pub use proving::{LawProofs, check_laws};
+pub use rinv_parts::LawName;
 pub use stop::{LawFault, LawStop};
 pub use testing::{LawQuotients, test_laws};

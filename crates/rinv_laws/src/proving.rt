@@ -7,23 +7,22 @@ ghost use Rattle.rinv_defs.specs.System.{group_count};
 ghost use Rattle.rinv_defs.specs.SystemForm.{IsSystem};
 ghost use Rattle.rinv_defs.specs.Laws.{AllLawsHold, copies};
 ghost use Rattle.rinv_ring.specs.Fault.{DegreesMeet};
-ghost use Rattle.rinv_cofactors.specs.Combining.{CombiningMeets};
-ghost use Rattle.rinv_laws.specs.LawNames.{law_of, rank, variables_of};
-ghost use Rattle.rinv_laws.specs.Points.{ArePolynomials};
-ghost use Rattle.rinv_laws.specs.Group.{IsGroupBasis, never};
+ghost use Rattle.rinv_parts.specs.LawNames.{law_of, rank, variables_of};
+ghost use Rattle.rinv_parts.specs.Points.{ArePolynomials};
+ghost use Rattle.rinv_laws.specs.Group.{IsGroupBasis};
+ghost use Rattle.rinv_sub.specs.Refusal.{never};
 ghost use Rattle.rinv_laws.specs.Copied.{AreAllQuotients};
 ghost use Rattle.rinv_laws.specs.Faults.{TestMeets, LawStopsSo};
-ghost use Rattle.rinv_laws.specs.Proofs.{proved_laws, chosen, AreMadeOf, KeepCofactors, MakingMeets, ProvesLaw, ProofsMeet};
+ghost use Rattle.rinv_laws.specs.Proofs.{BasisMeets, proved_laws, chosen, AreMadeOf, KeepCofactors, MakingMeets, ProvesLaw, ProofsMeet};
 
 use crate::cofactors::{cofactors_in_copies, lists_in_copies};
 use crate::group::GroupBasis;
-use crate::law::LawName;
-use crate::parts::variables_of;
 use crate::stop::LawStop;
 use crate::testing::{LawQuotients, test_laws};
 use rinv_buch::kept_places;
 use rinv_cofactors::combinations;
 use rinv_mono::Grevlex;
+use rinv_parts::{LawName, variables_of};
 use rinv_poly::{KPoly, PolyRing};
 use rinv_ring::RingFault;
 use rinv_text::System;
@@ -63,6 +62,7 @@ fn proofs_of(
 ) -> Result<Vec<(LawName, Vec<Vec<KPoly>>)>, RingFault>
     requires system { IsSystem system.now.system }
     requires group { IsGroupBasis system.now.system group.now.basis group.now.reduced.items }
+    requires hold { AllLawsHold system.now.system }
     requires quotients { AreAllQuotients system.now.system group.now.basis quotients.now }
     ensures laws { IfOk result (λ p. map (λ e. law_of e.0) p.items ≡ proved_laws) }
     ensures proofs { IfOk result (λ p. All (λ e. ProvesLaw system.now.system group.now.basis (law_of e.0) (map (λ us. us.items) e.1.items)) p.items) }
@@ -115,7 +115,7 @@ fn kept_cofactors(
     ensures normal { IfOk result (λ r. All (λ us. ArePolynomials system.now.system.p (group_count system.now.system) us.items) r.0.items) }
     ensures inside { IfOk result (λ r. All (λ k. k < length r.0.items) r.1.items) }
     ensures cofactors { IfOk result (λ r. KeepCofactors system.now.system group.now.basis (chosen (map (λ us. us.items) r.0.items) r.1.items)) }
-    ensures degree { IfErr result (DegreesMeet (CombiningMeets (residue_ops system.now.system.p) grevlex never system.now.system.ideal group.now.basis.journal group.now.basis.polys)) }
+    ensures degree { IfErr result (DegreesMeet (BasisMeets system.now.system group.now.basis)) }
 {
     let ring = PolyRing::new(system.field, system.group.len());
     let found = &group.basis;

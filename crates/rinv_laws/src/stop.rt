@@ -1,6 +1,6 @@
 //! Why the laws are not found to hold.
 
-use crate::law::LawName;
+use rinv_parts::LawName;
 use rinv_poly::KPoly;
 use rinv_ring::{NoMemory, RingFault};
 use std::alloc::AllocFailed;

@@ -1,28 +1,28 @@
 //! The test of the laws, one after the other, part by part.
 
-ghost use Rattle.std.specs.Prelude.{◌≡◌, ◌<◌, ◌^◌, [], map, length, get_or, nat_lt, All, IfOk, IfErr, OnOk};
+ghost use Rattle.std.specs.Prelude.{◌≡◌, ◌<◌, [], map, length, get_or, nat_lt, All, IfOk, IfErr, OnOk};
 ghost use Rattle.rinv_algebra.specs.Residue.{residue_ops};
 ghost use Rattle.rinv_algebra.specs.Order.{grevlex};
 ghost use Rattle.rinv_algebra.specs.Normal.{IsNormal};
 ghost use Rattle.rinv_groebner.specs.Reduced.{kept};
 ghost use Rattle.rinv_div.specs.Divisors.{AreDivisors};
 ghost use Rattle.rinv_defs.specs.SystemForm.{IsSystem};
-ghost use Rattle.rinv_defs.specs.Laws.{AllLawsHold, LawHolds};
-ghost use Rattle.rinv_laws.specs.LawNames.{law_of};
-ghost use Rattle.rinv_laws.specs.Points.{ArePolynomials};
+ghost use Rattle.rinv_defs.specs.Laws.{AllLawsHold, LawHolds, parts};
+ghost use Rattle.rinv_parts.specs.LawNames.{law_of, variables_of};
+ghost use Rattle.rinv_parts.specs.Parts.{ArePartsOf};
+ghost use Rattle.rinv_parts.specs.Points.{ArePolynomials};
 ghost use Rattle.rinv_laws.specs.Group.{IsGroupBasis};
-ghost use Rattle.rinv_laws.specs.Copied.{AreQuotients, AreAllQuotients};
-ghost use Rattle.rinv_laws.specs.Faults.{TestMeets, HoldBefore, LawStopsSo};
-ghost use Rattle.rinv_laws.specs.Tested.{LeavesNothing, LeaveNothing, PartStops, PartsStop, FaultIn};
+ghost use Rattle.rinv_laws.specs.Copied.{AreQuotients, AreAllQuotients, IsZeroPart};
+ghost use Rattle.rinv_laws.specs.Faults.{TestMeets, HoldBefore, LawStopsSo, PartHolds};
+ghost use Rattle.rinv_laws.specs.Tested.{DivisionStops, FaultIn, IsCopiedBasis, LeavesNothing, PartStops};
 
 use crate::copied::{CopiedBasis, copied_basis};
 use crate::group::GroupBasis;
-use crate::law::LawName;
-use crate::parts::parts_of;
 use crate::stop::{LawFault, LawStop};
 use rinv_buch::kept_places;
 use rinv_div::{Division, divide_wholly};
 use rinv_mono::Grevlex;
+use rinv_parts::{LawName, LawParts, part_at, part_count, parts_of};
 use rinv_poly::{KPoly, PolyRing};
 use rinv_ring::{Gf, Ring};
 use rinv_text::System;
@@ -58,7 +58,7 @@ impl Model for LawQuotients {
 }
 
 // The quotients of a part of the law by the basis, where its division leaves nothing.
-fn test_part(
+fn divide_part(
     alloc: Global,
     ring: &PolyRing<Gf>,
     law: LawName,
@@ -71,7 +71,7 @@ fn test_part(
     ensures normal { IfOk result (λ qs. ArePolynomials ring.now.coeffs ring.now.vars qs.items) }
     ensures nothing { IfOk result (λ qs. LeavesNothing ring.now.coeffs basis.now.polys.items part.now qs.items) }
     ensures fault { IfErr result (FaultIn ring.now.coeffs ring.now.vars) }
-    ensures stop { IfErr result (PartStops ring.now.coeffs basis.now.polys.items (law_of law) place part.now) }
+    ensures stop { IfErr result (DivisionStops ring.now.coeffs basis.now.polys.items (law_of law) place part.now) }
 {
     let division = divide_wholly(ring, alloc, part, &basis.polys, &basis.divisors, &Grevlex)?;
     let Division { quotients, rest } = division;
@@ -86,25 +86,47 @@ fn test_part(
     }
 }
 
-// The quotients of the parts of the law by the basis, where the division of each leaves nothing.
+// Makes a part of a law and divides it.
+fn test_part(
+    alloc: Global,
+    system: &System,
+    group: &GroupBasis,
+    own: &LawParts,
+    basis: &CopiedBasis,
+    place: u32,
+) -> Result<Vec<KPoly>, LawStop>
+    requires group { IsGroupBasis system.now.system group.now.basis group.now.reduced.items }
+    requires parts { ArePartsOf system.now.system own.now }
+    requires basis { IsCopiedBasis system.now.system group.now.basis (law_of own.now.law) basis.now }
+    requires inside { place < length (parts system.now.system (law_of own.now.law)) }
+    ensures normal { IfOk result (λ qs. ArePolynomials system.now.system.p (variables_of system.now.system (law_of own.now.law)) qs.items) }
+    ensures holds { OnOk result (PartHolds system.now.system (law_of own.now.law) place) }
+    ensures zero { IfOk result (λ qs. IsZeroPart system.now.system group.now.basis (law_of own.now.law) place qs.items) }
+    ensures stop { IfErr result (PartStops system.now.system group.now.basis (law_of own.now.law) place) }
+{
+    let part = part_at(alloc, system, own, place)?;
+    divide_part(alloc, &own.ring, own.law, place, &part, basis)
+}
+
+// Tests the parts of a law in their order, where the laws before it hold.
 fn test_parts(
     alloc: Global,
-    ring: &PolyRing<Gf>,
-    law: LawName,
-    parts: &[KPoly],
+    system: &System,
+    group: &GroupBasis,
+    own: &LawParts,
     basis: &CopiedBasis,
 ) -> Result<Vec<Vec<KPoly>>, LawStop>
-    requires few { length parts.now < 2 ^ 32 }
-    requires parts { ArePolynomials ring.now.coeffs ring.now.vars parts.now }
-    requires divisors { AreDivisors (residue_ops ring.now.coeffs) (λ c. nat_lt c ring.now.coeffs) ring.now.vars grevlex basis.now.polys.items basis.now.divisors.list.items }
-    ensures normal { IfOk result (λ lists. All (ArePolynomials ring.now.coeffs ring.now.vars) (map (λ qs. qs.items) lists.items)) }
-    ensures nothing { IfOk result (λ lists. LeaveNothing ring.now.coeffs basis.now.polys.items parts.now (map (λ qs. qs.items) lists.items)) }
-    ensures fault { IfErr result (FaultIn ring.now.coeffs ring.now.vars) }
-    ensures stop { IfErr result (PartsStop ring.now.coeffs basis.now.polys.items (law_of law) parts.now) }
+    requires group { IsGroupBasis system.now.system group.now.basis group.now.reduced.items }
+    requires parts { ArePartsOf system.now.system own.now }
+    requires basis { IsCopiedBasis system.now.system group.now.basis (law_of own.now.law) basis.now }
+    requires before { HoldBefore system.now.system (law_of own.now.law) }
+    ensures holds { OnOk result (LawHolds system.now.system (law_of own.now.law)) }
+    ensures quotients { IfOk result (λ lists. AreQuotients system.now.system group.now.basis (law_of own.now.law) (map (λ qs. qs.items) lists.items)) }
+    ensures stop { IfErr result (LawStopsSo system.now.system (TestMeets system.now.system group.now.basis)) }
 {
     let mut lists = Vec::new(alloc);
-    'parts: for k in 0..parts.len() {
-        let quotients = test_part(alloc, ring, law, k as u32, &parts[k], basis)?;
+    'parts: for place in 0..part_count(system, own.law) {
+        let quotients = test_part(alloc, system, group, own, basis, place)?;
         lists.push(quotients)?;
     }
     Ok(lists)
@@ -128,14 +150,15 @@ fn test_law(
     ensures stop { IfErr result (LawStopsSo system.now.system (TestMeets system.now.system group.now.basis)) }
 {
     let from = PolyRing::new(system.field, system.group.len());
-    let (ring, parts) = parts_of(alloc, system, law)?;
+    let own = parts_of(alloc, system, law)?;
     let copies = law.copies();
-    let basis = copied_basis(alloc, &from, &group.basis.polys, places, &ring, copies)?;
-    test_parts(alloc, &ring, law, &parts, &basis)
+    let basis = copied_basis(alloc, &from, &group.basis.polys, places, &own.ring, copies)?;
+    test_parts(alloc, system, group, &own, &basis)
 }
 
 /// Tests the laws in their order, and each part by part, by division by the kept elements of the group's basis. Fault comes exactly where a
-/// part is false, at the first; Degree only where the computation of a part or its division meets these degrees.
+/// part is false, at the first; Degree only where all parts before one hold, and a substitution by which this one is made or its division
+/// meets these degrees.
 pub fn test_laws(
     alloc: Global,
     system: &System,

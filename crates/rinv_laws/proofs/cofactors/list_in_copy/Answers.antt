@@ -7,7 +7,7 @@ use Rattle.rinv_algebra.specs.Polynomial.{past}
 use Rattle.rinv_algebra.proofs.ResidueLaws.{residue_laws}
 use Rattle.rinv_groebner.specs.Division.{AreSame}
 use Rattle.rinv_defs.specs.System.{Poly}
-use Rattle.rinv_laws.proofs.PointFacts.{mapped-more}
+use Rattle.rinv_laws.proofs.CopiedFacts.{mapped-more}
 use Rattle.rinv_laws.proofs.cofactors.list_in_copy.Goals as goal
 
 pub polynomials-init : goal.polynomials-init

@@ -2,7 +2,7 @@ use Rattle.std.proofs.Common.{◌*◌, map, take}
 use Rattle.rinv_algebra.specs.Residue.{residue_ops}
 use Rattle.rinv_algebra.specs.Polynomial.{past}
 use Rattle.rinv_groebner.specs.Division.{AreSame}
-use Rattle.rinv_laws.specs.Points.{ArePolynomials}
+use Rattle.rinv_parts.specs.Points.{ArePolynomials}
 use Rattle.rinv_laws.proofs.cofactors.list_in_copy.Given as goal
 
 abbrev pub invariant-polynomials : goal.invariant-polynomials

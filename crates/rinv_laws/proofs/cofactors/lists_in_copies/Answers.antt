@@ -4,7 +4,7 @@ use Rattle.std.proofs.lemmas.List.Elements.{All-nil, All-push}
 use Rattle.std.proofs.lemmas.Nat.{row_fits}
 use Rattle.rinv_algebra.specs.Residue.{residue_ops}
 use Rattle.rinv_groebner.specs.Division.{AreSame}
-use Rattle.rinv_laws.specs.Points.{ArePolynomials}
+use Rattle.rinv_parts.specs.Points.{ArePolynomials}
 use Rattle.rinv_laws.specs.Proofs.{chosen, past_lists}
 use Rattle.rinv_laws.proofs.CopiedCofactors.{ranged-more}
 use Rattle.rinv_laws.proofs.cofactors.lists_in_copies.Goals as goal

@@ -2,7 +2,7 @@ use Rattle.std.proofs.Common.{◌*◌, map, All}
 use Rattle.std.specs.List.{AllZip, range_with_len}
 use Rattle.rinv_algebra.specs.Residue.{residue_ops}
 use Rattle.rinv_groebner.specs.Division.{AreSame}
-use Rattle.rinv_laws.specs.Points.{ArePolynomials}
+use Rattle.rinv_parts.specs.Points.{ArePolynomials}
 use Rattle.rinv_laws.specs.Proofs.{chosen, past_lists}
 use Rattle.rinv_laws.proofs.cofactors.lists_in_copies.Given as goal
 

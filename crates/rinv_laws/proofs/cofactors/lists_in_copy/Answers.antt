@@ -6,7 +6,7 @@ use Rattle.rinv_algebra.specs.Residue.{residue_ops}
 use Rattle.rinv_algebra.specs.Polynomial.{past}
 use Rattle.rinv_groebner.specs.Division.{AreSame}
 use Rattle.rinv_defs.specs.System.{Poly}
-use Rattle.rinv_laws.specs.Points.{ArePolynomials}
+use Rattle.rinv_parts.specs.Points.{ArePolynomials}
 use Rattle.rinv_laws.specs.Proofs.{chosen, past_lists}
 use Rattle.rinv_laws.proofs.CopiedCofactors.{lists-more, list-at}
 use Rattle.rinv_laws.proofs.cofactors.lists_in_copy.Goals as goal

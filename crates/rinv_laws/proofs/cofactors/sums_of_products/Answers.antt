@@ -27,4 +27,4 @@ places-preserved c =
 pub returns-in_err-sum-clause-degree : goal.returns-in_err-sum-clause-degree
 returns-in_err-sum-clause-degree c =
     let q = err_from_is_err_and c.from_residual-in_err-sum.result c.from_residual-in_err-sum.ensures.1 in
-    rw (q.1, q.2) (products-meet c.args.ring.now.coeffs c.args.quotients.now (map (λ us. us.items) c.args.lists.now) c.places.place c.in_err-sum.field-0.0 c.in_err-sum.ensures.degree)
+    rw (q.1, q.2) (products-meet c.args.ring.now.coeffs c.args.ring.now.vars c.args.quotients.now (map (λ us. us.items) c.args.lists.now) c.places.place c.in_err-sum.field-0.0 c.in_err-sum.ensures.degree)

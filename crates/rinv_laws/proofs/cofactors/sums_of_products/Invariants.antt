@@ -4,7 +4,7 @@ use Rattle.rinv_algebra.specs.Residue.{residue_ops}
 use Rattle.rinv_algebra.specs.Polynomial.{poly_ops}
 use Rattle.rinv_algebra.specs.Ideal.{combination}
 use Rattle.rinv_cofactors.specs.Combining.{column}
-use Rattle.rinv_laws.specs.Points.{ArePolynomials}
+use Rattle.rinv_parts.specs.Points.{ArePolynomials}
 use Rattle.rinv_laws.proofs.cofactors.sums_of_products.Given as goal
 
 abbrev pub invariant-places : goal.invariant-places

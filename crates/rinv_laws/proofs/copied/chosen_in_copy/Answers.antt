@@ -8,7 +8,7 @@ use Rattle.rinv_algebra.specs.Normal.{IsNormal}
 use Rattle.rinv_algebra.proofs.ResidueLaws.{residue_laws}
 use Rattle.rinv_groebner.specs.Division.{AreSame}
 use Rattle.rinv_defs.specs.System.{Poly}
-use Rattle.rinv_laws.proofs.PointFacts.{mapped-more}
+use Rattle.rinv_laws.proofs.CopiedFacts.{mapped-more}
 use Rattle.rinv_laws.proofs.CopiedFacts.{chosen-one, chosen-is, chosen-map}
 use Rattle.rinv_laws.proofs.copied.chosen_in_copy.Goals as goal
 

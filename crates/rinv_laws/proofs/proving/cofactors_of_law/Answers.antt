@@ -7,10 +7,10 @@ use Rattle.rinv_cofactors.proofs.Cofactors.{each-more}
 use Rattle.rinv_text.specs.Told.{Told}
 use Rattle.rinv_defs.specs.System.{Poly}
 use Rattle.rinv_defs.specs.Laws.{copies}
-use Rattle.rinv_laws.specs.LawNames.{law_of, variables_of}
-use Rattle.rinv_laws.specs.Points.{ArePolynomials}
+use Rattle.rinv_parts.specs.LawNames.{law_of, variables_of}
+use Rattle.rinv_parts.specs.Points.{ArePolynomials}
 use Rattle.rinv_laws.specs.Proofs.{AreInCopies, CopiesMeet, chosen, in_copy}
-use Rattle.rinv_laws.proofs.Computed.{over}
+use Rattle.rinv_parts.proofs.Stored.{normal-over as over}
 use Rattle.rinv_laws.proofs.CopiedCofactors.{list-at}
 use Rattle.rinv_laws.proofs.ProvedLaws.{chosen-all}
 use Rattle.rinv_laws.proofs.LawCofactors.{OfLaw, copies-inside, made-number, made-kept, made-lengths, law-made, law-meets}

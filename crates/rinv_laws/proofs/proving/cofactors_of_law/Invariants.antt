@@ -1,6 +1,6 @@
 use Rattle.std.proofs.Common.{◌≡◌, ◌<◌, ℕ, [], length, get_or, map}
 use Rattle.rinv_defs.specs.Laws.{copies}
-use Rattle.rinv_laws.specs.LawNames.{law_of, variables_of}
+use Rattle.rinv_parts.specs.LawNames.{law_of, variables_of}
 use Rattle.rinv_laws.specs.Proofs.{AreInCopies, chosen, in_copy}
 use Rattle.rinv_laws.proofs.proving.cofactors_of_law.Given as goal
 

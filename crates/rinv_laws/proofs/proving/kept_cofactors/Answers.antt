@@ -13,7 +13,7 @@ use Rattle.rinv_text.specs.Told.{Told}
 use Rattle.rinv_text.proofs.SystemParts.{parts-of}
 use Rattle.rinv_buch.specs.Kinds.{Found}
 use Rattle.rinv_buch.specs.Reducing.{kept_places}
-use Rattle.rinv_laws.specs.Points.{ArePolynomials}
+use Rattle.rinv_parts.specs.Points.{ArePolynomials}
 use Rattle.rinv_laws.proofs.BasisOver.{basis-over, combining-over}
 use Rattle.rinv_laws.proofs.ProvedLaws.{chosen-keep}
 use Rattle.rinv_laws.proofs.proving.kept_cofactors.Goals as goal
@@ -106,7 +106,8 @@ pub returns-in_err-lists-clause-degree : goal.returns-in_err-lists-clause-degree
 returns-in_err-lists-clause-degree c =
     let s = c.args.system.now.system in
     let q = err_from_is_err_and c.from_residual.result c.from_residual.ensures.1 in
-    rw (q.1, q.2) (combining-over s c.args.group.now.basis c.new-ring.result.coeffs c.deref.result.now
+    rw (q.1, q.2) (combining-over s c.args.group.now.basis c.new-ring.result.coeffs c.new-ring.result.vars c.deref.result.now
     (c.new-ring.ensures.ring ∙ ap (λ (t : Told). t.system.p) c.system.view_is)
+    (c.new-ring.ensures.count ∙ c.len.ensures.len ∙ ap (λ (t : Told). length t.system.group) c.system.view_is)
     (c.deref.ensures.value ∙ ap (λ (t : Told). t.system.ideal) c.system.view_is)
     c.in_err-lists.field-0.0 c.in_err-lists.ensures.degree)

@@ -3,18 +3,15 @@ use Rattle.std.proofs.lemmas.List.{length-map, map_push, take_all}
 use Rattle.std.proofs.lemmas.List.Elements.{All-nil, All-push}
 use Rattle.std.proofs.lemmas.Result.{err_from_is_err_and}
 use Rattle.rinv_algebra.specs.Residue.{residue_ops}
-use Rattle.rinv_algebra.specs.Order.{grevlex}
 use Rattle.rinv_ring.specs.Fault.{DegreesMeet}
 use Rattle.rinv_poly.proofs.Meets.{meet-weaker}
 use Rattle.rinv_sub.proofs.Sums.{take-at}
-use Rattle.rinv_cofactors.specs.Combining.{CombiningMeets}
 use Rattle.rinv_defs.specs.System.{Poly}
 use Rattle.rinv_defs.specs.Laws.{Law, copies}
-use Rattle.rinv_laws.specs.LawNames.{law_of, variables_of}
-use Rattle.rinv_laws.specs.Points.{ArePolynomials}
-use Rattle.rinv_laws.specs.Group.{never}
+use Rattle.rinv_parts.specs.LawNames.{law_of, variables_of}
+use Rattle.rinv_parts.specs.Points.{ArePolynomials}
 use Rattle.rinv_laws.specs.Copied.{AreQuotients}
-use Rattle.rinv_laws.specs.Proofs.{AreMadeOf, KeepCofactors, MakingMeets, ProvesLaw, ProofsMeet, chosen, proved_laws}
+use Rattle.rinv_laws.specs.Proofs.{AreMadeOf, BasisMeets, KeepCofactors, MakingMeets, ProvesLaw, ProofsMeet, chosen, proved_laws}
 use Rattle.rinv_laws.proofs.ProvedLaws.{all-many, all-viewed, law-proved, making-meets, rank-inside}
 use Rattle.rinv_laws.proofs.proving.proofs_of.Goals as goal
 
@@ -88,11 +85,11 @@ returns-in_err-arrays-clause-degree c =
     let meets : DegreesMeet (MakingMeets s law lists own) fault =
     subst₂ (λ ls (ks : List ℕ). DegreesMeet (MakingMeets s law (chosen (map (λ us. us.items) ls) ks) own) fault) c.deref.ensures.value c.deref-in-laws.ensures.value c.in_err-arrays.ensures.degree in
     let q = err_from_is_err_and c.from_residual-in_err-arrays.result c.from_residual-in_err-arrays.ensures.1 in
-    rw (q.1, q.2) (meet-weaker (MakingMeets s law lists own) (ProofsMeet s found) (λ x y m. inr (making-meets s law lists found keep own are x y m)) fault meets)
+    rw (q.1, q.2) (meet-weaker (MakingMeets s law lists own) (ProofsMeet s found) (λ x y m. (c.requires.hold, inr (making-meets s law lists found keep own are x y m))) fault meets)
 
 pub returns-in_err-lists-clause-degree : goal.returns-in_err-lists-clause-degree
 returns-in_err-lists-clause-degree c =
     let s = c.args.system.now.system in
     let found = c.args.group.now.basis in
     let q = err_from_is_err_and c.from_residual.result c.from_residual.ensures.1 in
-    rw (q.1, q.2) (meet-weaker (CombiningMeets (residue_ops s.p) grevlex never s.ideal found.journal found.polys) (ProofsMeet s found) (λ x y m. inl m) c.in_err-lists.field-0.0 c.in_err-lists.ensures.degree)
+    rw (q.1, q.2) (meet-weaker (BasisMeets s found) (ProofsMeet s found) (λ x y m. (c.requires.hold, inl m)) c.in_err-lists.field-0.0 c.in_err-lists.ensures.degree)

@@ -1,5 +1,5 @@
 use Rattle.std.proofs.Common.{◌≡◌, map, take, All}
-use Rattle.rinv_laws.specs.LawNames.{law_of}
+use Rattle.rinv_parts.specs.LawNames.{law_of}
 use Rattle.rinv_laws.specs.Proofs.{proved_laws, ProvesLaw}
 use Rattle.rinv_laws.proofs.proving.proofs_of.Given as goal
 

@@ -3,9 +3,9 @@ use Rattle.std.proofs.lemmas.List.{map-append}
 use Rattle.rinv_text.specs.Told.{Told}
 use Rattle.rinv_defs.specs.System.{Poly}
 use Rattle.rinv_laws.specs.declared.group.GroupBasis.{GroupBasis}
-use Rattle.rinv_laws.specs.declared.law.LawName.TheVariants.{L1}
-use Rattle.rinv_laws.specs.LawNames.{law_of, rank}
-use Rattle.rinv_laws.proofs.Computed.{over}
+use Rattle.rinv_parts.specs.declared.law.LawName.TheVariants.{L1}
+use Rattle.rinv_parts.specs.LawNames.{law_of, rank}
+use Rattle.rinv_parts.proofs.Stored.{normal-over as over}
 use Rattle.rinv_laws.proofs.GroupCopies.{polys-nonzero, nonzero-over, kept-over}
 use Rattle.rinv_laws.proofs.LawsInTurn.{names, rank-listed, TestedUpTo, tested-none, tested-more, tested-hold, tested-all}
 use Rattle.rinv_laws.proofs.testing.test_laws.Goals as goal

@@ -1,0 +1,4 @@
+pub mod LawNames
+pub mod Points
+pub mod Substitutions
+pub mod Parts
