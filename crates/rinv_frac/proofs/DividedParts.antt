@@ -2,14 +2,13 @@
 --   no-quotient          there is no quotient where the first monomial of the divisor does not divide that of the dividend
 --   quotient-nonzero     a quotient of what is not zero is not zero
 --   whole-divided, reciprocal-divided, not-divided    the three cases
-use Rattle.std.proofs.Common.{◌≡◌, ℕ, Bool, true, false, List, [], ◌∷◌, refl, sym, ◌∙◌, subst, subst₂, true≢false}
+use Rattle.std.proofs.Common.{◌≡◌, ℕ, Bool, false, [], ◌∷◌, sym, ◌∙◌, subst, subst₂, true≢false}
 use Rattle.std.specs.Prelude.{nat_lt}
 use Rattle.rinv_algebra.specs.Ring.{RingOps, RingLaws, FieldLaws, IsSame}
 use Rattle.rinv_algebra.specs.Residue.{residue_ops}
 use Rattle.rinv_algebra.specs.Monomial.{divides}
 use Rattle.rinv_algebra.specs.Polynomial.{Term, Polynomial, poly_ops, product, constant, is_zero}
 use Rattle.rinv_algebra.specs.Fraction.{Fraction, over_one}
-use Rattle.rinv_algebra.proofs.RingFacts as facts
 use Rattle.rinv_algebra.proofs.Degrees.{is_zero-same}
 use Rattle.rinv_algebra.proofs.PolynomialLaws.{poly_laws}
 use Rattle.rinv_algebra.proofs.ResidueLaws.{residue_laws}

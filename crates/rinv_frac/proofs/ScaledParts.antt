@@ -5,7 +5,7 @@
 --   inverts-lead         the inverse of the coefficient at the place of the greatest monomial
 --   cancelled-pair       the result may be written in another way
 --   from-steps, from-zero           what the steps make is cancelled
-use Rattle.std.proofs.Common.{◌≡◌, ℕ, ◌<◌, Bool, true, false, List, [], ◌∷◌, length, get_or, nat_lt, refl, sym, ◌∙◌, subst, subst₂}
+use Rattle.std.proofs.Common.{◌≡◌, ℕ, ◌<◌, true, false, List, [], length, get_or, nat_lt, sym, ◌∙◌, subst, subst₂}
 use Rattle.std.proofs.lemmas.List.Elements.{Contains-get_or}
 use Rattle.rinv_algebra.specs.Ring.{RingOps, RingLaws, FieldLaws, IsSame}
 use Rattle.rinv_algebra.specs.Order.{grevlex}

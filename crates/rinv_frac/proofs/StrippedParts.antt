@@ -4,13 +4,13 @@
 --   stripped-of, monomial-nonzero    the fraction as it is seen, and the monomial as a polynomial
 --   divisible            the terms of a stored part
 --   nothing-stripped     a monomial of degree 0 leaves the fraction as it is
-use Rattle.std.proofs.Common.{◌≡◌, ℕ, ◌==◌, Bool, true, false, List, [], ◌∷◌, ◌++◌, length, get_or, map, sum, All, refl, sym, ◌∙◌, subst, arith, IsTrue, eq-eqb}
+use Rattle.std.proofs.Common.{◌≡◌, ℕ, ◌==◌, true, false, List, [], ◌∷◌, length, get_or, map, All, refl, sym, ◌∙◌, subst, arith, IsTrue, eq-eqb}
 use Rattle.std.specs.Prelude.{nat_lt}
 use Rattle.std.proofs.lemmas.List.Elements.{All-head, All-tail, Contains-get_or}
 use Rattle.std.proofs.lemmas.List.Sums.{sum_by-cons}
 use Rattle.rinv_algebra.specs.Ring.{RingOps, RingLaws, FieldLaws, IsSame}
 use Rattle.rinv_algebra.specs.Residue.{residue_ops}
-use Rattle.rinv_algebra.specs.Monomial.{same_monomial, monomial_product, divides, quotient, total_degree}
+use Rattle.rinv_algebra.specs.Monomial.{same_monomial, divides, quotient, total_degree}
 use Rattle.rinv_algebra.specs.Polynomial.{Term, Polynomial, poly_ops, product, term_product, constant, has_monomial, is_zero}
 use Rattle.rinv_algebra.specs.Fraction.{Fraction}
 use Rattle.rinv_algebra.proofs.Degrees.{is_zero-same}
@@ -23,7 +23,7 @@ use Rattle.rinv_poly.proofs.Gather.{term-same}
 use Rattle.rinv_poly.proofs.NormalFacts.{has-term}
 use Rattle.rinv_poly.proofs.Units.{term-same_monomial}
 use Rattle.rinv_frac.specs.Fractions.{IsPart}
-use Rattle.rinv_frac.specs.Cancelling.{HasQuotient, IsSamePair, IsStripped, IsGreatestDivisor}
+use Rattle.rinv_frac.specs.Cancelling.{HasQuotient, IsStripped, IsGreatestDivisor}
 use Rattle.rinv_frac.proofs.CancelledValues.{by_term}
 use Rattle.rinv_frac.proofs.CancelledDegrees.{term_nonzero}
 

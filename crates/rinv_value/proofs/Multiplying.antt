@@ -16,7 +16,6 @@ use Rattle.rinv_algebra.specs.Fraction.{Fraction, fraction_ops, fraction_product
 use Rattle.rinv_algebra.proofs.Degrees.{is_zero-same}
 use Rattle.rinv_algebra.proofs.PolynomialLaws.{poly_laws}
 use Rattle.rinv_algebra.proofs.Products.{times_all-append, replicate-more, replicate-split, factors-take_more, factors-split}
-use Rattle.rinv_algebra.proofs.RingFacts as facts
 use Rattle.rinv_theory.proofs.Fields.{fraction_laws}
 use Rattle.std.proofs.lemmas.List.Elements.{All-nil, All-cons, All-head, All-tail}
 use Rattle.rinv_frac.specs.Cancelling.{IsSamePair}

@@ -9,10 +9,10 @@ use Rattle.std.proofs.Math.Seq.{split_at}
 use Rattle.std.proofs.lemmas.List.{take_more}
 use Rattle.std.specs.Prelude.{nat_lt}
 use Rattle.std.proofs.lemmas.List.Sorted.{All-permutation}
-use Rattle.std.proofs.lemmas.List.Elements.{All-nil, All-cons, All-head, All-tail, All-append, All-replicate}
+use Rattle.std.proofs.lemmas.List.Elements.{All-nil, All-head, All-tail, All-append, All-replicate}
 use Rattle.rinv_algebra.specs.Ring.{RingOps, RingLaws, FieldLaws, IsSame}
 use Rattle.rinv_algebra.specs.Residue.{residue_ops}
-use Rattle.rinv_algebra.specs.Polynomial.{Term, Polynomial, poly_ops, constant, is_zero}
+use Rattle.rinv_algebra.specs.Polynomial.{Term, Polynomial, poly_ops, constant}
 use Rattle.rinv_algebra.specs.Value.{value, factors, times_all}
 use Rattle.rinv_algebra.specs.Fraction.{Fraction, over_one, fraction_ops}
 use Rattle.rinv_algebra.proofs.Degrees.{is_zero-same}

@@ -1,5 +1,4 @@
-use Rattle.std.proofs.Common.{◌≡◌, ◌<◌, refl, arith}
-use Rattle.std.specs.Prelude.{IsNone, ◌↔◌}
+use Rattle.std.proofs.Common.{◌<◌, refl, arith}
 use Rattle.rinv_algebra.specs.Monomial.{total_degree, max_degree}
 use Rattle.rinv_frac.proofs.LeastExponents.{low-sum}
 use Rattle.rinv_frac.proofs.common.divisor_of.Goals as goal

@@ -1,4 +1,4 @@
-use Rattle.std.proofs.Common.{◌∙◌, ap, arith}
+use Rattle.std.proofs.Common.{arith}
 use Rattle.rinv_frac.proofs.LeastExponents.{least-both, least-push}
 use Rattle.rinv_frac.proofs.common.least_exponents.Goals as goal
 

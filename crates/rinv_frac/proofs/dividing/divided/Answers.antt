@@ -1,4 +1,4 @@
-use Rattle.std.proofs.Common.{◌≡◌, false, subst, sym, ◌∙◌}
+use Rattle.std.proofs.Common.{◌≡◌, false, subst, sym}
 use Rattle.rinv_algebra.specs.Residue.{residue_ops}
 use Rattle.rinv_algebra.specs.Polynomial.{is_zero}
 use Rattle.rinv_algebra.specs.Fraction.{Fraction}

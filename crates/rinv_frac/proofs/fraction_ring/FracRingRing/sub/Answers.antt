@@ -1,11 +1,10 @@
 use Rattle.rinv_algebra.specs.Residue.{residue_ops}
-use Rattle.rinv_algebra.proofs.ResidueLaws.{residue_laws}
 use Rattle.rinv_algebra.proofs.ResidueField.{residue_field_laws}
-use Rattle.rinv_theory.proofs.Fields.{fraction_laws}
+use Rattle.rinv_algebra.proofs.ResidueLaws.{residue_laws}
 use Rattle.rinv_frac.specs.Arithmetic.{uncancelled}
 use Rattle.rinv_frac.specs.declared.uncancelled.Joining.TheVariants.{Difference}
 use Rattle.rinv_frac.proofs.Stored.{stored}
-use Rattle.rinv_frac.proofs.Sums.{IsMade, finished, difference-value, joined-nonzero}
+use Rattle.rinv_frac.proofs.Sums.{value-of, made-of, joined-nonzero, difference-value}
 use Rattle.rinv_frac.proofs.fraction_ring.FracRingRing.sub.Goals as goal
 
 pub returns-clause-value : goal.returns-clause-value
@@ -19,19 +18,11 @@ returns-clause-value c =
     let b = c.args.b.now in
     let na = (stored p v a c.requires.left).nonzero in
     let nb = (stored p v b c.requires.right).nonzero in
-    let made : IsMade p a b (uncancelled o Difference a b) c.in_ok-difference-2.difference = finished p v a b (uncancelled o Difference a b) c.in_ok-difference.difference c.in_ok-difference-2.difference (joined-nonzero o l F Difference a b na nb) c.in_ok-difference.ensures.sum c.in_ok-difference-2.ensures.cancelled c.in_ok-difference-2.ensures.value c.in_ok-difference-2.ensures.numerator c.in_ok-difference-2.ensures.denominator in
-    (fraction_laws o l F).same_trans _ _ _ made.value (difference-value o l F a b na nb)
+    value-of p v a b (uncancelled o Difference a b) c.in_ok-difference.difference c.in_ok-difference-2.difference _ (joined-nonzero o l F Difference a b na nb) c.in_ok-difference.ensures.sum c.in_ok-difference-2.ensures.value (difference-value o l F a b na nb)
 
 pub returns-clause-made : goal.returns-clause-made
 returns-clause-made c =
     let p = c.args.self.now.base.coeffs in
-    let v = c.args.self.now.base.vars in
-    let o = residue_ops p in
-    let l = residue_laws p in
-    let F = residue_field_laws p in
     let a = c.args.a.now in
     let b = c.args.b.now in
-    let na = (stored p v a c.requires.left).nonzero in
-    let nb = (stored p v b c.requires.right).nonzero in
-    let made : IsMade p a b (uncancelled o Difference a b) c.in_ok-difference-2.difference = finished p v a b (uncancelled o Difference a b) c.in_ok-difference.difference c.in_ok-difference-2.difference (joined-nonzero o l F Difference a b na nb) c.in_ok-difference.ensures.sum c.in_ok-difference-2.ensures.cancelled c.in_ok-difference-2.ensures.value c.in_ok-difference-2.ensures.numerator c.in_ok-difference-2.ensures.denominator in
-    made.made
+    made-of p c.args.self.now.base.vars a b (uncancelled (residue_ops p) Difference a b) c.in_ok-difference.difference c.in_ok-difference-2.difference c.in_ok-difference.ensures.sum c.in_ok-difference-2.ensures.cancelled
