@@ -51,7 +51,7 @@ fn change(
         space,
         whole,
     } = rings;
-    // What does not fit here is refused before anything is multiplied.
+    // Each of the two is refused before its own products are formed, where these do not fit.
     let moved_numerator = substitute_over_field(space, alloc, numerator, whole, action)?;
     let moved_denominator = substitute_over_field(space, alloc, denominator, whole, action)?;
     let kept_denominator = space.behind(alloc, *group, denominator, whole)?;
