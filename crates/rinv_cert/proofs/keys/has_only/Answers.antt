@@ -1,7 +1,7 @@
 use Rattle.std.proofs.Common.{◌∙◌, sym, ap, bytes_eq}
 use Rattle.std.specs.List.{list_all, list_any}
 use Rattle.rinv_cert.specs.KeySets.{keys_in}
-use Rattle.rinv_cert.proofs.Members.{has_only-keys, is_one_of, foreign}
+use Rattle.rinv_cert.proofs.MemberKeys.{has_only-keys, is_one_of, foreign}
 use Rattle.rinv_cert.proofs.keys.has_only.Goals as goal
 
 pub returns-then-not-is_key : goal.returns-then-not-is_key
