@@ -64,3 +64,8 @@ module _ {P : Type 0} (f : P → Poly) where
 -- the certificate whose polynomials stand where they are used
 abbrev pub plain : CertificateOf Poly → defined.Certificate
 plain = certificate_by (λ f. f)
+
+-- the parts with a basis whose polynomials do
+abbrev pub parts_seen : List (Poly × List Poly) × List (List Poly) × List (PairItem Poly) × List (List ℕ × Poly × List (List ℕ × Poly × Tied) × List Poly)
+    → List defined.BasisItem × List (List Poly) × List defined.PairItem × List defined.RelationItem
+parts_seen x = (map (basis_item_by (λ f. f)) x.0, x.1, map (pair_item_by (λ f. f)) x.2, map (relation_item_by (λ f. f)) x.3)

@@ -5,10 +5,10 @@ ghost use Rattle.serde_json.specs.View.{view};
 ghost use Rattle.rinv_json.specs.Reading.{found};
 ghost use Rattle.rinv_json.specs.Shapes.{poly};
 ghost use Rattle.rinv_json.specs.Items.{basis_item, pair_item, relation_item};
-ghost use Rattle.rinv_json.specs.Certificates.{many, system_of, invariance_of, sound_of, full_of, body_of, certificate_of};
+ghost use Rattle.rinv_json.specs.Certificates.{many, system_of, invariance_of, sound_of, basis_of, full_of, body_of, certificate_of};
 ghost use Rattle.rinv_json.specs.Denoted.{DenotesCertificate};
 ghost use Rattle.rinv_cert.specs.Faults.{Refuses, RefusesBytes};
-ghost use Rattle.rinv_cert.specs.Seen.{kind_of, system_by, basis_item_by, pair_item_by, relation_item_by, plain};
+ghost use Rattle.rinv_cert.specs.Seen.{kind_of, system_by, basis_item_by, pair_item_by, relation_item_by, parts_seen, plain};
 
 use crate::certificate::{
     BasisItem, Certificate, CertificateOf, Kind, PairItem, Polynomial, RelationItem, System,
@@ -88,6 +88,13 @@ type PairItems = Items<PairItem<Polynomial>>;
 
 type RelationItems = Items<RelationItem<Polynomial>>;
 
+type BasisParts = (
+    BasisItems,
+    Items<Items<Polynomial>>,
+    PairItems,
+    RelationItems,
+);
+
 // The basis.
 fn basis(alloc: Global, value: &Value) -> Result<BasisItems, CertStop>
     ensures ok { IfOk result (λ xs. many (codes "basis") (basis_item poly) (view value.now) ≡ found (map (basis_item_by (λ f. f)) xs)) }
@@ -115,6 +122,19 @@ fn relations(alloc: Global, value: &Value) -> Result<RelationItems, CertStop>
     Ok(items)
 }
 
+// The basis, the inputs, the pairs and the relations.
+#[tactic(auto, unfolding(rinv_json::specs::Certificates::basis_of))]
+fn basis_parts(alloc: Global, value: &Value) -> Result<BasisParts, CertStop>
+    ensures ok { IfOk result (λ x. basis_of poly (view value.now) ≡ found (parts_seen x)) }
+    ensures fault { IfErr result (Refuses (basis_of poly (view value.now))) }
+{
+    let basis = basis(alloc, value)?;
+    let inputs = many::<Items<Polynomial>>(alloc, value, Part::Inputs)?;
+    let pairs = pairs(alloc, value)?;
+    let relations = relations(alloc, value)?;
+    Ok((basis, inputs, pairs, relations))
+}
+
 // The keys of kind `full`.
 #[tactic(auto, unfolding(rinv_json::specs::Certificates::full_of))]
 fn of_full(alloc: Global, value: &Value) -> Result<Certificate, CertStop>
@@ -122,10 +142,7 @@ fn of_full(alloc: Global, value: &Value) -> Result<Certificate, CertStop>
     ensures fault { IfErr result (Refuses (full_of poly (view value.now))) }
 {
     let mut certificate = of_sound(alloc, value)?;
-    let basis = basis(alloc, value)?;
-    let inputs = many::<Items<Polynomial>>(alloc, value, Part::Inputs)?;
-    let pairs = pairs(alloc, value)?;
-    let relations = relations(alloc, value)?;
+    let (basis, inputs, pairs, relations) = basis_parts(alloc, value)?;
     certificate.kind = Kind::Full;
     certificate.basis = basis;
     certificate.inputs = inputs;
