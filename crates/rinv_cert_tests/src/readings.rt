@@ -1,6 +1,6 @@
 //! What is read of the worked certificate, and of its changed forms.
 
-use crate::signs::changed;
+use crate::worked::{SIGNS, changed};
 use rinv_cert::{CertStop, Certificate, Items, Name, Part, Polynomial, System, Term, from_json};
 use std::alloc::{AllocError, Global};
 use std::test::Fail;
