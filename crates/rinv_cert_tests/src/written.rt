@@ -11,7 +11,10 @@ const OTHERS: &[(&str, &str)] = &[
     ("[\"coprime\",1,2]", "[\"quotients\",1,2,[[[1,[0,0]]],[]]]"),
     ("[\"coprime\",1,2]", "[\"coprime\",0,4294967295]"),
     ("[\"generator\",1]", "[\"constant\",100]"),
-    ("\"space\":[\"x\",\"y\"]", "\"space\":[\"\\u0001\\\"\",\"é\"]"),
+    (
+        "\"space\":[\"x\",\"y\"]",
+        "\"space\":[\"\\u0001\\\"\",\"é\"]",
+    ),
 ];
 
 // Whether the text is written as it was read.
