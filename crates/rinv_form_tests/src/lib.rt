@@ -4,6 +4,4 @@
 #[cfg(test)]
 mod checks;
 #[cfg(test)]
-mod readings;
-#[cfg(test)]
 mod signs;
