@@ -2,6 +2,6 @@
 #![tactic(auto)]
 
 #[cfg(test)]
-mod checks;
+mod forms;
 #[cfg(test)]
-mod signs;
+mod worked;
