@@ -13,7 +13,7 @@ ghost use Rattle.rinv_parts.specs.Points.{ArePolynomials};
 ghost use Rattle.rinv_basis_check.specs.Bases.{IsBasisOf};
 
 use rinv_cert::{CertificateOf, Kind};
-use rinv_form::{Sizes, sizes};
+use rinv_form::{Sizes, sizes_in};
 use rinv_identities::copied_elements;
 use rinv_mono::{Blocks, Mono};
 use rinv_poly::{KPoly, PolyRing};
@@ -62,7 +62,7 @@ pub fn basis_of(alloc: Global, stored: &CertificateOf<KPoly>) -> Result<Basis, N
     requires form { format_failure (plain stored.now) ≡ None }
     ensures { IfOk result (IsBasisOf (plain stored.now)) }
 {
-    let sizes = sizes(stored);
+    let sizes = sizes_in(stored);
     let ring = PolyRing::new(sizes.field, sizes.graph);
     let order = action_order(alloc, &sizes)?;
     let elements = copied_elements(alloc, stored)?;

@@ -1,6 +1,2 @@
-pub mod StoredLists
-pub mod StoredPolynomials
-pub mod FirstPart
-pub mod Kept
+pub mod FirstFailures
 pub mod Changes
-pub mod FirstFailure

@@ -55,7 +55,7 @@ pub(crate) fn sizes_of(certificate: &Certificate) -> Result<Sizes, FormatStop>
 }
 
 /// The sizes of a certificate that is stored.
-pub fn sizes(stored: &CertificateOf<KPoly>) -> Sizes
+pub fn sizes_in(stored: &CertificateOf<KPoly>) -> Sizes
     requires { format_failure (plain stored.now) ≡ None }
     ensures { IsSized (plain stored.now) result }
 {

@@ -7,7 +7,7 @@ ghost use Rattle.rinv_defs.specs.Conditions.{elements};
 ghost use Rattle.rinv_cert.specs.Seen.{plain};
 
 use rinv_cert::{CertificateOf, Kind};
-use rinv_form::sizes;
+use rinv_form::sizes_in;
 use rinv_poly::{KPoly, PolyRing};
 use rinv_ring::{NoMemory, Ring};
 use std::alloc::Global;
@@ -18,7 +18,7 @@ pub fn copied_elements(alloc: Global, stored: &CertificateOf<KPoly>) -> Result<V
     requires form { format_failure (plain stored.now) ≡ None }
     ensures { IfOk result (λ r. r.items ≡ elements (plain stored.now)) }
 {
-    let sizes = sizes(stored);
+    let sizes = sizes_in(stored);
     let ring = PolyRing::new(sizes.field, sizes.graph);
     let basis = stored.basis.as_slice();
     let mut elements = Vec::new(alloc);

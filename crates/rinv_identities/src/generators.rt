@@ -9,7 +9,7 @@ ghost use Rattle.rinv_parts.specs.Points.{AreStored};
 
 use crate::ideals::widened_ideal;
 use rinv_cert::CertificateOf;
-use rinv_form::{Sizes, sizes};
+use rinv_form::{Sizes, sizes_in};
 use rinv_poly::{KPoly, PolyRing};
 use rinv_ring::{NoMemory, Ring};
 use rinv_sub::rename;
@@ -40,7 +40,7 @@ pub fn action_generators(
     requires { format_failure (plain stored.now) ≡ None }
     ensures { IfOk result (λ r. AreStored (plain stored.now).system.p (length (plain stored.now).system.group + 2 * length (plain stored.now).system.space) ((plain stored.now).system.ideal ++ graph (plain stored.now).system) r.items) }
 {
-    let sizes = sizes(stored);
+    let sizes = sizes_in(stored);
     let ring = PolyRing::new(sizes.field, sizes.graph);
     let group = PolyRing::new(sizes.field, sizes.group);
     let whole = PolyRing::new(sizes.field, sizes.whole);

@@ -15,7 +15,7 @@ ghost use Rattle.rinv_identities.specs.Graphs.{IsGraph};
 use crate::ideals::widened_ideal;
 use crate::sums::multiplies_out;
 use rinv_cert::CertificateOf;
-use rinv_form::{Sizes, sizes};
+use rinv_form::{Sizes, sizes_in};
 use rinv_poly::{KPoly, PolyRing};
 use rinv_ring::{Gf, NoMemory, Ring, RingFault};
 use rinv_sub::substitute_over_field;
@@ -84,7 +84,7 @@ pub fn graph_of(alloc: Global, stored: &CertificateOf<KPoly>) -> Result<Graph, N
     requires { format_failure (plain stored.now) ≡ None }
     ensures { IfOk result (IsGraph (plain stored.now).system) }
 {
-    let sizes = sizes(stored);
+    let sizes = sizes_in(stored);
     let ring = PolyRing::new(sizes.field, sizes.graph);
     let whole = PolyRing::new(sizes.field, sizes.whole);
     let group = PolyRing::new(sizes.field, sizes.group);
