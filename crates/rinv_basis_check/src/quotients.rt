@@ -34,7 +34,7 @@ fn multiple(
 ) -> Result<Option<KPoly>, NoMemory>
     requires first { f < length basis.now.elements.items }
     requires second { g < length basis.now.elements.items }
-    ensures { (c : Certificate) → IsBasisOf c basis.now → common.now ≡ lcm (leading c.system (element c (f + 1))) (leading c.system (element c (g + 1))) → IfOk result (λ o. is_some o ≡ product_fits (residue_ops c.system.p) (multiplier (residue_ops c.system.p) (action_order c.system) (element c (f + 1)) (element c (g + 1)) ∷ []) (element c (f + 1))) }
+    ensures fits { (c : Certificate) → IsBasisOf c basis.now → common.now ≡ lcm (leading c.system (element c (f + 1))) (leading c.system (element c (g + 1))) → IfOk result (λ o. is_some o ≡ product_fits (residue_ops c.system.p) (multiplier (residue_ops c.system.p) (action_order c.system) (element c (f + 1)) (element c (g + 1)) ∷ []) (element c (f + 1))) }
     ensures element { IfOk result (λ o. IfSome o (λ r. IsTrue (is_stored basis.now.ring.coeffs basis.now.ring.vars r))) }
     ensures value { (c : Certificate) → IsBasisOf c basis.now → common.now ≡ lcm (leading c.system (element c (f + 1))) (leading c.system (element c (g + 1))) → IfOk result (λ o. IfSome o (λ r. IsSame (poly_ops (residue_ops c.system.p)) r (term_product (residue_ops c.system.p) (multiplier (residue_ops c.system.p) (action_order c.system) (element c (f + 1)) (element c (g + 1))) (element c (f + 1))))) }
 {

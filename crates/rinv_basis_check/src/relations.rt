@@ -17,7 +17,7 @@ ghost use Rattle.rinv_basis_check.specs.Relations.{tails_are};
 
 use crate::relation::{RelationRings, relation_polynomial, relation_rings};
 use crate::tied::is_tied_to;
-use rinv_cert::{CertificateOf, Items, Kind, RelationItem, TailItem};
+use rinv_cert::{CertificateOf, Items, Kind, RelationItem};
 use rinv_form::{Sizes, sizes_in};
 use rinv_identities::{Graph, vanishes_on_graph};
 use rinv_mono::{Grevlex, Mono, MonoOrder};

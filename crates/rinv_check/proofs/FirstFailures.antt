@@ -1,11 +1,13 @@
 -- The first condition that fails, kind by kind.
-use Rattle.std.proofs.Common.{◌≡◌, ℕ, List, [], ◌∷◌, Option, Some, None, refl, ap, ◌∙◌}
+use Rattle.std.proofs.Common.{◌≡◌, ℕ, List, [], ◌∷◌, Option, Some, None, refl, sym, ap, ◌∙◌}
 use Rattle.rinv_defs.specs.Certificate.{Certificate, Kind, invariance, sound, full}
 use Rattle.rinv_defs.specs.Format.{format_failure}
-use Rattle.rinv_defs.specs.Conditions.{law_failure, basis_failure, inputs_failure, invariance_failure}
+use Rattle.rinv_defs.specs.Conditions.{law_is_shown, law_failure, basis_failure, inputs_failure, invariance_failure}
 use Rattle.rinv_defs.specs.PairConditions.{pairs_failure}
 use Rattle.rinv_defs.specs.RelationConditions.{relations_failure, leads_failure}
 use Rattle.rinv_defs.specs.Accepted.{conditions_of, first_failing, first_failure}
+use Rattle.rinv_form.specs.Trimmed.{keys_of_kind, trimmed}
+use Rattle.rinv_form.proofs.TrimmedForms.{keys-form, form-of_kind}
 use Rattle.rinv_check.specs.Verdicts.{or_after}
 
 failing-after : (k : ℕ) (o : Option ℕ) (rest : List (ℕ × Option ℕ)) → first_failing ((k, o) ∷ rest) ≡ or_after k o (first_failing rest)
@@ -74,3 +76,19 @@ of_full c e f =
 
     rest2 : List (ℕ × Option ℕ)
     rest2 = (2, law_failure c) ∷ rest3
+
+-- ---- the keys that its kind does not have tell nothing
+
+keys-full : (c : Certificate) → c.kind ≡ full → keys_of_kind full c ≡ c
+keys-full c e = ap (λ (k : Kind). record { kind = k; system = c.system; fractions = c.fractions; invariance = c.invariance; laws = c.laws; basis = c.basis; inputs = c.inputs; pairs = c.pairs; relations = c.relations }) (sym e)
+
+keys-failure : (k : Kind) (c : Certificate) → c.kind ≡ k → first_failure (keys_of_kind k c) ≡ first_failure c
+unfolding first_failure law_failure law_is_shown invariance_failure
+keys-failure invariance c e =
+    ap (λ o. first_failing ((1, o) ∷ (8, invariance_failure c) ∷ [])) (keys-form invariance c ∙ sym (form-of_kind invariance c e)) ∙ sym (of_a_kind c invariance e)
+keys-failure sound c e =
+    ap (λ o. first_failing ((1, o) ∷ (2, law_failure c) ∷ (8, invariance_failure c) ∷ [])) (keys-form sound c ∙ sym (form-of_kind sound c e)) ∙ sym (of_a_kind c sound e)
+keys-failure full c e = ap first_failure (keys-full c e)
+
+pub first_failure-trimmed : (c : Certificate) → first_failure (trimmed c) ≡ first_failure c
+first_failure-trimmed c = keys-failure c.kind c refl

@@ -1,2 +1,3 @@
 pub mod FirstFailures
+pub mod LawFits
 pub mod Changes

@@ -51,14 +51,14 @@ pub(crate) fn named_system(alloc: Global, stored: &CertificateOf<KPoly>) -> Resu
     ensures { IfOk result (λ s. s.system ≡ (plain stored.now).system) }
 {
     let z = sizes_in(stored);
-    let plain = &stored.system;
-    let group = names_of(alloc, plain.group.as_slice())?;
-    let space = names_of(alloc, plain.space.as_slice())?;
-    let ideal = copied(alloc, z.field, z.group, plain.ideal.as_slice())?;
-    let unit = plain.unit.as_slice().to_vec(alloc)?;
-    let product = copied(alloc, z.field, 2 * z.group, plain.product.as_slice())?;
-    let inverse = copied(alloc, z.field, z.group, plain.inverse.as_slice())?;
-    let action = copied(alloc, z.field, z.whole, plain.action.as_slice())?;
+    let written = &stored.system;
+    let group = names_of(alloc, written.group.as_slice())?;
+    let space = names_of(alloc, written.space.as_slice())?;
+    let ideal = copied(alloc, z.field, z.group, written.ideal.as_slice())?;
+    let unit = written.unit.as_slice().to_vec(alloc)?;
+    let product = copied(alloc, z.field, 2 * z.group, written.product.as_slice())?;
+    let inverse = copied(alloc, z.field, z.group, written.inverse.as_slice())?;
+    let action = copied(alloc, z.field, z.whole, written.action.as_slice())?;
     Ok(System {
         field: z.field,
         group,
