@@ -118,3 +118,7 @@ within_map f xs k h = rw (length-map f xs) h
 
 pub past_map : {A B : Type 0} (f : A → B) (xs : List A) (k : ℕ) → length xs ≤ k → length (map f xs) ≤ k
 past_map f xs k h = rw (length-map f xs) h
+
+-- an entry has its form
+pub entry_form : (c : Certificate) (k : ℕ) (e : PairItem) → c.kind ≡ full → format_failure c ≡ None → k < length c.pairs → e ≡ get_or c.pairs k e → is_pair_item c.system (length c.basis) e ≡ true
+entry_form c k e kind form within is = test_at (is_pair_item c.system (length c.basis)) c.pairs k e within is (pair_items c kind form)
