@@ -18,3 +18,14 @@ form-of_kind k c e = ap (λ k. first_false (parts_of_kind k c)) e
 
 pub trimmed-form : (c : Certificate) → format_failure (trimmed c) ≡ format_failure c
 trimmed-form c = keys-form c.kind c ∙ sym (form-of_kind c.kind c refl)
+
+-- what every kind has stays as it is
+pub keys-system : (k : Kind) (c : Certificate) → (keys_of_kind k c).system ≡ c.system
+keys-system invariance c = refl
+keys-system sound c = refl
+keys-system full c = refl
+
+pub keys-fractions : (k : Kind) (c : Certificate) → (keys_of_kind k c).fractions ≡ c.fractions
+keys-fractions invariance c = refl
+keys-fractions sound c = refl
+keys-fractions full c = refl
