@@ -71,3 +71,7 @@ module _ (p v q w : ℕ) (eq : q ≡ p) (ew : w ≡ v) where
       → (if length lists == count then each_stored (λ fs. if length fs == size then each_stored (λ f. kept (is_stored q w f) f) fs else None) lists else None)
       ≡ kept (length lists == count && list_all (are_stored p v size) lists) lists
   cofactors-kept size count lists = counted_stored-kept (length lists == count) _ (are_stored p v size) (counted-kept size) lists
+
+  -- one polynomial
+  pub polynomial-kept : (f : Poly) → kept (is_stored q w f) f ≡ kept (is_stored p v f) f
+  polynomial-kept f = rw (eq, ew) refl
