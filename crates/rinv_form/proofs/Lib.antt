@@ -5,4 +5,5 @@ pub mod StoredPolynomials
 pub mod FirstParts
 pub mod SeenForms
 pub mod TrimmedForms
+pub mod FormParts
 pub mod DistinctLists
