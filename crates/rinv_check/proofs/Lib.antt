@@ -1,3 +1,4 @@
 pub mod FirstFailures
 pub mod LawFits
 pub mod Changes
+pub mod FractionSettings

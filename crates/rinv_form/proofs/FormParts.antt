@@ -1,17 +1,18 @@
 -- What the form of a certificate says of its parts.
 --   form-field, form-group, form-space, form-ideal, ..     those of every kind
+--   form-system                                            all those of a system
 --   form-basis, form-inputs, form-pairs, form-relations    those of kind full
 use Rattle.std.proofs.Common.{◌≡◌, ℕ, ◌+◌, ◌*◌, ◌≤◌, List, [], ◌∷◌, ◌++◌, length, Bool, true, ◌&&◌, ◌==◌, nat_lt, nat_le, IsTrue, None, subst, refl}
 use Rattle.std.specs.List.{list_all, AllByRecursion}
 use Rattle.std.proofs.lemmas.Bool.{leb-true}
 use Rattle.rinv_algebra.specs.Residue.{is_listed}
 use Rattle.rinv_algebra.proofs.Same.{both}
-use Rattle.rinv_defs.specs.System.{group_count, space_count}
-use Rattle.rinv_defs.specs.SystemForm.{is_good, are_good, is_nonzero}
+use Rattle.rinv_defs.specs.System.{System, group_count, space_count}
+use Rattle.rinv_defs.specs.SystemForm.{IsSystem, system_parts, is_good, are_good, is_nonzero}
 use Rattle.rinv_defs.specs.Names.{is_between, are_names}
 use Rattle.rinv_defs.specs.Certificate.{Certificate, full}
-use Rattle.rinv_defs.specs.Format.{first_false, format_failure, parts_of_kind, common_parts, law_parts, basis_parts, is_basis_item, is_pair_item, is_relation_item}
-use Rattle.rinv_defs.proofs.Tests.{parts_true, first_false-append_right}
+use Rattle.rinv_defs.specs.Format.{first_false, format_failure, parts_of_kind, fraction_parts, common_parts, law_parts, basis_parts, is_basis_item, is_pair_item, is_relation_item}
+use Rattle.rinv_defs.proofs.Tests.{parts_true, first_false-append_right, all_of-append}
 use Rattle.rinv_defs.proofs.Sound.{common_of_kind}
 
 module _ (c : Certificate) (form : format_failure c ≡ None) where
@@ -57,6 +58,13 @@ module _ (c : Certificate) (form : format_failure c ≡ None) where
 
   pub form-invariance : (length c.invariance == length c.fractions && list_all (are_good c.system (length c.system.ideal) (group_count c.system + space_count c.system)) c.invariance) ≡ true
   form-invariance = common.1.1.1.1.1.1.1.1.1.0
+
+  -- a system without a section
+  pub form-system : c.system.section ≡ [] → IsSystem c.system
+  form-system none = whole c.system none (all_of-append (system_parts c.system) (fraction_parts c) common)
+    where
+      whole : (s : System) → s.section ≡ [] → list_all (λ part. part.1) (system_parts s) ≡ true → IsSystem s
+      whole s e all = rw (all, e) refl
 
 -- ---- the basis
 

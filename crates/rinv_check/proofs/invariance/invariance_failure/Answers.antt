@@ -1,7 +1,7 @@
 use Rattle.std.proofs.Common.{◌∙◌, ◌+◌, length, ap, List, refl}
 use Rattle.rinv_defs.specs.System.{Poly}
 use Rattle.rinv_check.proofs.Changes.{AreSame-length, cofactors-all, failure-alike}
-use Rattle.rinv_check.proofs.invariance.first_failure.Goals as goal
+use Rattle.rinv_check.proofs.invariance.invariance_failure.Goals as goal
 
 pub first_not_shown-requires-clause-cofactors : goal.first_not_shown-requires-clause-cofactors
 first_not_shown-requires-clause-cofactors c =
