@@ -1,8 +1,8 @@
 -- Sums of products over the numbers modulo a prime, of which those with a cofactor that is zero are left out.
 --   zero-fits, zero-adds      a cofactor that is zero
 --   sum-more                  one product more
---   sums-same                 a polynomial is the sum, or is not
-use Rattle.std.proofs.Common.{◌≡◌, ℕ, ◌+◌, ◌<◌, List, [], ◌∷◌, ◌++◌, length, get_or, take, Bool, true, ◌&&◌, ◌||◌, refl, sym, ap, ◌∙◌, arith}
+--   sums-same, not-fitting    a polynomial is the sum, or is not
+use Rattle.std.proofs.Common.{◌≡◌, ℕ, ◌+◌, ◌<◌, List, [], ◌∷◌, ◌++◌, length, get_or, take, true, false, ◌&&◌, refl, sym, ap, ◌∙◌, arith}
 use Rattle.std.proofs.lemmas.List.{append-nil}
 use Rattle.rinv_algebra.specs.Ring.{IsSame}
 use Rattle.rinv_algebra.specs.Residue.{residue_ops}
@@ -51,3 +51,7 @@ module _ (p : ℕ) where
       let ops = poly_ops (residue_ops p) in
       let e : same (residue_ops p) f sum ≡ same (residue_ops p) f (combination (residue_ops p) us fs) = iff-equal (same (residue_ops p) f sum) (same (residue_ops p) f (combination (residue_ops p) us fs)) (λ h. facts.then ops laws h is) (λ h. facts.then ops laws h (facts.back ops laws is)) in
       e ∙ sym (ap (λ b. b && same (residue_ops p) f (combination (residue_ops p) us fs)) fits)
+
+  -- products that do not fit
+  pub not-fitting : (f : Poly) (us fs : List Poly) → false ≡ combination_fits (residue_ops p) us fs → false ≡ multiplies_out (residue_ops p) f us fs
+  not-fitting f us fs e = ap (λ b. b && same (residue_ops p) f (combination (residue_ops p) us fs)) e

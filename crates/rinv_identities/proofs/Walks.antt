@@ -1,7 +1,7 @@
 -- Walks along a list up to the first element that fails.
 --   walk-start, walk-more, walk-stop, walk-end     the place of the failure, by the elements that are left
 --   element-at                                     an element of a mapped list
-use Rattle.std.proofs.Common.{◌≡◌, ℕ, zero, suc, ◌+◌, ◌<◌, ◌≤◌, List, [], ◌∷◌, length, map, get_or, drop, Bool, true, false, Some, None, Option, refl, sym, ap, ◌∙◌, arith, add-one, drop-cons}
+use Rattle.std.proofs.Common.{◌≡◌, ℕ, zero, suc, ◌+◌, ◌<◌, ◌≤◌, List, [], ◌∷◌, length, map, get_or, drop, Bool, true, false, cond, Some, None, refl, sym, ap, ◌∙◌, arith, add-one, drop-cons}
 use Rattle.std.proofs.lemmas.List.{drop_all}
 use Rattle.std.specs.List.{position_from}
 
@@ -35,3 +35,13 @@ pub element-at : {A B : Type 0} (f : A → B) (xs : List A) (k : ℕ) (x : A) �
 element-at f [] k x within is = absurd (omega (arith, within))
 element-at f (y ∷ ys) zero x within is = ap f is
 element-at f (y ∷ ys) (suc k) x within is = element-at f ys k x (omega (arith, within)) is
+
+-- the walk along a mapped list is that along the list
+pub position_from-map : {A B : Type 0} (f : A → B) (test : B → Bool) (k : ℕ) (xs : List A) → position_from test k (map f xs) ≡ position_from (λ x. test (f x)) k xs
+position_from-map f test k [] = refl
+position_from-map f test k (x ∷ xs) = ap (cond (test (f x)) (Some k)) (position_from-map f test (k + 1) xs)
+
+-- tests that agree fail at the same place
+pub position_from-agree : {A : Type 0} (f g : A → Bool) → ((x : A) → f x ≡ g x) → (k : ℕ) (xs : List A) → position_from f k xs ≡ position_from g k xs
+position_from-agree f g e k [] = refl
+position_from-agree f g e k (x ∷ xs) = rw (e x, position_from-agree f g e (k + 1) xs) refl
