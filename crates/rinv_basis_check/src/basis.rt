@@ -1,6 +1,6 @@
 //! The elements of a basis, with their leading monomials.
 
-ghost use Rattle.std.specs.Prelude.{◌≡◌, ◌+◌, ◌*◌, [], ◌∷◌, length, map, None, IfOk, IsTrue, false};
+ghost use Rattle.std.specs.Prelude.{◌≡◌, ◌+◌, ◌*◌, [], ◌∷◌, length, map, All, None, IfOk, IsTrue, false};
 ghost use Rattle.rinv_algebra.specs.Residue.{residue_ops};
 ghost use Rattle.rinv_algebra.specs.Polynomial.{is_zero};
 ghost use Rattle.rinv_algebra.specs.Leading.{leading_monomial};
@@ -27,9 +27,10 @@ pub struct Basis {
     pub order: Blocks,
     pub elements: Vec<KPoly>,
     pub leads: Vec<Mono>,
-    ghost many: { length leads.items ≡ length elements.items },
     ghost polynomials: { ArePolynomials ring.coeffs ring.vars elements.items },
+    ghost nonzero: { All (λ f. is_zero (residue_ops ring.coeffs) f ≡ false) elements.items },
     ghost suits: { ring.vars ≡ last_from 0 order },
+    ghost leading: { leads.items ≡ map (leading_monomial (residue_ops ring.coeffs) (block_order (sizes_from 0 order))) elements.items },
 }
 
 // The order: first the group's variables decide, then Z, then the space's.

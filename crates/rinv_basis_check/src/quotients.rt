@@ -1,6 +1,6 @@
 //! An S-polynomial that reduces to zero, as its quotients show.
 
-ghost use Rattle.std.specs.Prelude.{◌≡◌, ◌<◌, ◌+◌, [], ◌∷◌, length, zip, IsTrue, IfOk, IfSome, is_some, ◌&&◌, false, true, slice_index_or};
+ghost use Rattle.std.specs.Prelude.{◌≡◌, ◌<◌, ◌+◌, [], ◌∷◌, length, zip, IsTrue, IfOk, IfSome, is_some, ◌&&◌, false, true, get_or};
 ghost use Rattle.std.specs.List.{list_all};
 ghost use Rattle.std.specs.Ordering.{is_lt};
 ghost use Rattle.rinv_algebra.specs.Ring.{IsSame};
@@ -12,7 +12,7 @@ ghost use Rattle.rinv_algebra.specs.Fits.{product_fits, combination_fits};
 ghost use Rattle.rinv_defs.specs.Conditions.{elements};
 ghost use Rattle.rinv_defs.specs.System.{Poly};
 ghost use Rattle.rinv_defs.specs.Certificate.{Certificate};
-ghost use Rattle.rinv_defs.specs.PairConditions.{element, leading, action_order, reduces_to_zero, stays_below};
+ghost use Rattle.rinv_defs.specs.PairConditions.{element, action_order, reduces_to_zero, stays_below};
 ghost use Rattle.rinv_form.specs.Forms.{is_stored, are_stored};
 ghost use Rattle.rinv_basis_check.specs.Bases.{IsBasisOf};
 
@@ -34,9 +34,10 @@ fn multiple(
 ) -> Result<Option<KPoly>, NoMemory>
     requires first { f < length basis.now.elements.items }
     requires second { g < length basis.now.elements.items }
-    ensures fits { (c : Certificate) → IsBasisOf c basis.now → common.now ≡ lcm (leading c.system (element c (f + 1))) (leading c.system (element c (g + 1))) → IfOk result (λ o. is_some o ≡ product_fits (residue_ops c.system.p) (multiplier (residue_ops c.system.p) (action_order c.system) (element c (f + 1)) (element c (g + 1)) ∷ []) (element c (f + 1))) }
+    requires common { common.now ≡ lcm (get_or basis.now.leads.items f []) (get_or basis.now.leads.items g []) }
+    ensures fits { (c : Certificate) → IsBasisOf c basis.now → IfOk result (λ o. is_some o ≡ product_fits (residue_ops c.system.p) (multiplier (residue_ops c.system.p) (action_order c.system) (element c (f + 1)) (element c (g + 1)) ∷ []) (element c (f + 1))) }
     ensures element { IfOk result (λ o. IfSome o (λ r. IsTrue (is_stored basis.now.ring.coeffs basis.now.ring.vars r))) }
-    ensures value { (c : Certificate) → IsBasisOf c basis.now → common.now ≡ lcm (leading c.system (element c (f + 1))) (leading c.system (element c (g + 1))) → IfOk result (λ o. IfSome o (λ r. IsSame (poly_ops (residue_ops c.system.p)) r (term_product (residue_ops c.system.p) (multiplier (residue_ops c.system.p) (action_order c.system) (element c (f + 1)) (element c (g + 1))) (element c (f + 1))))) }
+    ensures value { (c : Certificate) → IsBasisOf c basis.now → IfOk result (λ o. IfSome o (λ r. IsSame (poly_ops (residue_ops c.system.p)) r (term_product (residue_ops c.system.p) (multiplier (residue_ops c.system.p) (action_order c.system) (element c (f + 1)) (element c (g + 1))) (element c (f + 1))))) }
 {
     let ring = &basis.ring;
     let mono = common.quotient(alloc, &basis.leads[f])?;
@@ -64,7 +65,7 @@ fn stays_below(
     requires inside { place < length basis.now.elements.items }
     requires quotient { IsTrue (is_stored basis.now.ring.coeffs basis.now.ring.vars quotient.now) }
     requires common { length common.now ≡ basis.now.ring.vars }
-    requires fits { product_fits (residue_ops basis.now.ring.coeffs) quotient.now (slice_index_or basis.now.elements.items place []) ≡ true }
+    requires fits { product_fits (residue_ops basis.now.ring.coeffs) quotient.now (get_or basis.now.elements.items place []) ≡ true }
     ensures { (c : Certificate) → IsBasisOf c basis.now → IfOk result (λ b. b ≡ stays_below c.system common.now (quotient.now, element c (place + 1))) }
 {
     let ring = &basis.ring;

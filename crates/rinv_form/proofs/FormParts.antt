@@ -66,6 +66,12 @@ module _ (c : Certificate) (form : format_failure c ≡ None) where
       whole : (s : System) → s.section ≡ [] → list_all (λ part. part.1) (system_parts s) ≡ true → IsSystem s
       whole s e all = rw (all, e) refl
 
+-- an ideal has at most 64 generators
+pub few-generators : (c : Certificate) → first_false (common_parts c) ≡ None → length c.system.ideal ≤ 64
+few-generators c none =
+    let common : AllByRecursion (λ p. IsTrue p.1) (common_parts c) = parts_true (common_parts c) none in
+    leb-true (length c.system.ideal) 64 (both (nat_le (length c.system.ideal) 64) (list_all (is_good c.system (group_count c.system)) c.system.ideal) common.1.1.1.0).0
+
 -- ---- the basis
 
 module _ (c : Certificate) (kind : c.kind ≡ full) (form : format_failure c ≡ None) where

@@ -26,7 +26,8 @@ fn are_distinct(alloc: Global, count: u32, tail: &[TailItem<KPoly>]) -> Result<b
     requires { All (λ t. length t.0 ≡ count) tail.now }
     ensures { IfOk result (λ b. b ≡ are_distinct (map (λ t. t.0) tail.now)) }
 {
-    let _variables = count;
+    // Of lists of one length those that are one monomial are equal: the clauses ask for the length, the code does not.
+    let _length = count;
     let mut earlier = IndexSet::new(alloc);
     'terms: for k in 0..tail.len() {
         let term = &tail[k];
