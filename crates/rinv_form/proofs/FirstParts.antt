@@ -2,6 +2,7 @@
 --   part_holds, part_fails, first_false-append, first_false-found    lists of parts
 --   field_fails, .., frame_holds     the parts before a system's lists
 --   ideal_fails, .., lists_hold      its lists
+--   stops-first, stops-later         stops of lists one after the other
 use Rattle.std.proofs.Common.{◌≡◌, ℕ, ◌+◌, ◌*◌, ◌≤◌, List, [], ◌∷◌, ◌++◌, length, drop, Bool, true, false, ◌&&◌, ◌==◌, nat_lt, nat_le, Some, None, refl, sym, ap, ◌∙◌}
 use Rattle.std.specs.List.{list_all}
 use Rattle.std.proofs.lemmas.Bool.{leb-true}
@@ -157,3 +158,23 @@ module _ (s : System) (z : Sizes) (is : lists_failure s ≡ first_false (list_pa
           module _ (w : List Poly) (some10 : Some w ≡ kept (are_stored z.field z.whole z.space action) action) where
             pub lists_hold : lists_failure s ≡ None
             lists_hold = past_inverse ∙ part_holds 10 _ _ (rw ea at (kept-holds (are_stored z.field z.whole z.space action) action w some10)) ∙ no_part
+
+-- ---- stops of lists of parts, one after the other
+
+-- a stop at the first ones is one of all
+pub stops-first : (ps qs : List (ℕ × Bool)) (stop : FormatStop) → StopsAt (first_false ps) stop → StopsAt (first_false (ps ++ qs)) stop
+stops-first ps qs (Part k) h = first_false-found ps qs k h
+stops-first ps qs NoMemory h = tt
+
+-- where these hold, so is a stop at the others
+pub stops-later : (ps qs : List (ℕ × Bool)) (stop : FormatStop) → first_false ps ≡ None → StopsAt (first_false qs) stop → StopsAt (first_false (ps ++ qs)) stop
+stops-later ps qs (Part k) none h = first_false-append ps qs none ∙ h
+stops-later ps qs NoMemory none h = tt
+
+-- one part, where it fails
+pub one-stops : (k : ℕ) (b : Bool) → b ≡ false → first_false ((k, b) ∷ []) ≡ Some k
+one-stops k b h = part_fails k b [] h
+
+-- and where it holds
+pub one-holds : (k : ℕ) (b : Bool) → b ≡ true → first_false ((k, b) ∷ []) ≡ None
+one-holds k b h = part_holds k b [] h ∙ no_part
