@@ -12,7 +12,7 @@ and-true true b e h = h
 and-true false b e h = e
 
 and-first : (a b : Bool) → a ≡ false → (a && b) ≡ false
-and-first true b e = e
+and-first true b e = cc
 and-first false b e = refl
 
 and-last : (a b : Bool) → b ≡ false → (a && b) ≡ false

@@ -148,9 +148,9 @@ module _ (s : System) (z : Sizes) (is : lists_failure s ≡ first_false (list_pa
         pub inverse_fails : None ≡ kept (are_stored z.field z.group z.group inverse) inverse → lists_failure s ≡ Some 9
         inverse_fails none = past_product ∙ part_fails 9 _ _ (rw en at (kept-none (are_stored z.field z.group z.group inverse) inverse none))
 
-        module _ (z : List Poly) (some9 : Some z ≡ kept (are_stored z.field z.group z.group inverse) inverse) (action : List Poly) (ea : action ≡ s.action) where
+        module _ (y9 : List Poly) (some9 : Some y9 ≡ kept (are_stored z.field z.group z.group inverse) inverse) (action : List Poly) (ea : action ≡ s.action) where
           past_inverse : lists_failure s ≡ first_false (drop 4 (list_parts z s))
-          past_inverse = past_product ∙ part_holds 9 _ _ (rw en at (kept-holds (are_stored z.field z.group z.group inverse) inverse z some9))
+          past_inverse = past_product ∙ part_holds 9 _ _ (rw en at (kept-holds (are_stored z.field z.group z.group inverse) inverse y9 some9))
 
           pub action_fails : None ≡ kept (are_stored z.field (z.whole) z.space action) action → lists_failure s ≡ Some 10
           action_fails none = past_inverse ∙ part_fails 10 _ _ (rw ea at (kept-none (are_stored z.field (z.whole) z.space action) action none))

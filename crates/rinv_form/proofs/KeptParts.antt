@@ -1,7 +1,7 @@
 -- Values that are kept with their parts.
 --   kept-pair, kept-triple     parts that are kept
 --   first-lost, last-lost      a part that is not
-use Rattle.std.proofs.Common.{◌≡◌, Bool, true, false, ◌&&◌, Some, None, refl, ap, ap₂, ◌∙◌}
+use Rattle.std.proofs.Common.{◌≡◌, Bool, true, false, ◌&&◌, Option, Some, None, refl}
 use Rattle.rinv_form.specs.Forms.{kept}
 use Rattle.rinv_form.proofs.Kept.{kept-some, kept-none, kept-holds}
 
@@ -15,7 +15,7 @@ kept-true false x e = cc
 
 -- a first part that fails
 pub first-fails : (a b : Bool) → a ≡ false → (a && b) ≡ false
-first-fails true b e = e
+first-fails true b e = cc
 first-fails false b e = refl
 
 -- a last part that fails
@@ -28,15 +28,13 @@ both-hold true b e h = h
 both-hold false b e h = e
 
 -- two parts that are kept
-pub kept-pair : {A B : Type 0} (a b : Bool) (x y : A) (w z : B) → Some x ≡ kept a y → Some w ≡ kept b z → Some (x, w) ≡ kept (a && b) (y, z)
-kept-pair a b x y w z e f =
-    ap Some (ap₂ (λ p q. (p, q)) (kept-some a y x e) (kept-some b z w f)) ∙ kept-true (a && b) (y, z) (both-hold a b (kept-holds a y x e) (kept-holds b z w f))
+pub kept-pair : {A B : Type 0} (a b : Bool) (x y : A) (w z : B) → Some x ≡ kept a y → Some w ≡ kept b z → ◌≡◌ {A = Option (A × B)} (Some (x, w)) (kept (a && b) (y, z))
+kept-pair a b x y w z e f = rw (kept-some a y x e, kept-some b z w f) (kept-true (a && b) (y, z) (both-hold a b (kept-holds a y x e) (kept-holds b z w f)))
 
 -- three
-pub kept-triple : {A B C : Type 0} (a b d : Bool) (x y : A) (w z : B) (u v : C) → Some x ≡ kept a y → Some w ≡ kept b z → Some u ≡ kept d v → Some (x, w, u) ≡ kept ((a && b) && d) (y, z, v)
+pub kept-triple : {A B C : Type 0} (a b d : Bool) (x y : A) (w z : B) (u v : C) → Some x ≡ kept a y → Some w ≡ kept b z → Some u ≡ kept d v → ◌≡◌ {A = Option (A × B × C)} (Some (x, w, u)) (kept ((a && b) && d) (y, z, v))
 kept-triple a b d x y w z u v e f g =
-    ap Some (rw (kept-some a y x e, kept-some b z w f, kept-some d v u g) refl)
-    ∙ kept-true ((a && b) && d) (y, z, v) (both-hold (a && b) d (both-hold a b (kept-holds a y x e) (kept-holds b z w f)) (kept-holds d v u g))
+    rw (kept-some a y x e, kept-some b z w f, kept-some d v u g) (kept-true ((a && b) && d) (y, z, v) (both-hold (a && b) d (both-hold a b (kept-holds a y x e) (kept-holds b z w f)) (kept-holds d v u g)))
 
 -- a part that fails, and the whole is not kept
 pub first-lost : {A B : Type 0} (a b : Bool) (x : A) (y : B) → None ≡ kept a x → None ≡ kept (a && b) y
