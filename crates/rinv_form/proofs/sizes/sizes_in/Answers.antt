@@ -1,4 +1,4 @@
-use Rattle.std.proofs.Common.{◌∙◌, ap, sym, arith, length, true≢false}
+use Rattle.std.proofs.Common.{ℕ, ◌+◌, ◌*◌, ◌∙◌, ap, ap₂, sym, arith, length, true≢false}
 use Rattle.rinv_defs.proofs.PartCounts.{length-map}
 use Rattle.rinv_cert.specs.Seen.{plain, basis_item_by}
 use Rattle.rinv_form.proofs.FormParts.{form-field, form-group, form-space}
@@ -27,3 +27,20 @@ overflow_add-result-2 c =
     let g = form-group (plain c.args.stored.now) c.requires in
     let n = form-space (plain c.args.stored.now) c.requires in
     record { fits = omega (arith, g, n, ap length c.as_slice.ensures, ap length c.as_slice-2.ensures) }
+
+pub returns : goal.returns
+returns c =
+    let g = form-group (plain c.args.stored.now) c.requires in
+    let n = form-space (plain c.args.stored.now) c.requires in
+    record {
+      field = c.in-Ok.ensures.ok ∙ c.from.ensures;
+      group = ap length c.as_slice.ensures;
+      space = ap length c.as_slice-2.ensures;
+      whole = ap₂ (λ (a b : ℕ). a + b) (ap length c.as_slice.ensures) (ap length c.as_slice-2.ensures);
+      graph = ap₂ (λ (a b : ℕ). a + 2 * b) (ap length c.as_slice.ensures) (ap length c.as_slice-2.ensures);
+      ideal = ap length c.as_slice-3.ensures ∙ sym (length-map (λ f. f) c.args.stored.now.system.ideal);
+      basis = ap length c.as_slice-4.ensures ∙ sym (length-map (basis_item_by (λ f. f)) c.args.stored.now.basis);
+      fractions = ap length c.as_slice-5.ensures ∙ sym (length-map (λ x. (x.0, x.1)) c.args.stored.now.fractions);
+      few_group = omega (arith, g, ap length c.as_slice.ensures);
+      few_space = omega (arith, n, ap length c.as_slice-2.ensures);
+    }
