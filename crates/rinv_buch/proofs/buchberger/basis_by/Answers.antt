@@ -1,4 +1,4 @@
-use Rattle.std.proofs.Common.{List, sym, subst, arith}
+use Rattle.std.proofs.Common.{List, sym, subst, ◌∙◌, arith}
 use Rattle.std.proofs.lemmas.Result.{err_from_is_err_and}
 use Rattle.rinv_groebner.specs.Basis.{AreNonzero, IsGroebnerBasis}
 use Rattle.rinv_groebner.specs.Journal.{Entry}
@@ -8,9 +8,10 @@ use Rattle.rinv_buch.specs.Spent.{SpendsOn}
 use Rattle.rinv_buch.proofs.SpentTogether.{spends-nothing, spends-entry, limits-refl, limits-trans}
 use Rattle.rinv_buch.proofs.HaltFacts.{start-halts}
 use Rattle.rinv_buch.proofs.PairsLeft.{turn-less}
+use Rattle.rinv_buch.proofs.Takings.{is_taking, entries-fewer}
 use Rattle.rinv_buch.proofs.InVariables.{orders-monomials}
-use Rattle.rinv_buch.proofs.Endings.{run-nonzero, run-basis}
-use Rattle.rinv_buch.proofs.buchberger.basis.Goals as goal
+use Rattle.rinv_buch.proofs.Endings.{run-complete, run-nonzero, run-basis}
+use Rattle.rinv_buch.proofs.buchberger.basis_by.Goals as goal
 
 pub returns-in_err-run-clause-stop : goal.returns-in_err-run-clause-stop
 returns-in_err-run-clause-stop g c =
@@ -21,26 +22,42 @@ returns-in_err-run-clause-stop g c =
 pub pairs-init : goal.pairs-init
 pairs-init g c =
     let b = c.args.budget.now in
-    (c.in_ok-run.ensures.run, rw c.in_ok-run.ensures.empty (spends-nothing b (omega arith) (omega arith)), limits-refl b, c.requires.within)
+    (c.in_ok-run.ensures.run, rw c.in_ok-run.ensures.empty (spends-nothing b (omega arith) (omega arith)), limits-refl b, c.requires.within, c.begun.ensures.order ∙ c.new.ensures.order)
+
+pub turn-requires-clause-selects : goal.turn-requires-clause-selects
+turn-requires-clause-selects g c =
+    let takes = c.in-Some.ensures.takes in
+    subst (λ s. g.S.MonoOrder.fits s c.args.ring.now.vars) (sym (takes.order ∙ c.pairs.invariant.4)) c.requires.selects
+
+pub turn-requires-clause-taking : goal.turn-requires-clause-taking
+turn-requires-clause-taking g c =
+    is_taking (g.F.Ring.ops c.args.ring.now.coeffs) (g.F.Ring.is_element c.args.ring.now.coeffs) c.args.ring.now.vars (g.O.MonoOrder.cmp c.args.order.now) c.args.given.now c.in-Some.pair.first c.in-Some.pair.second c.pairs.run c.pairs.queue c.take.new.self c.pairs.invariant.0 c.in-Some.ensures.takes
 
 pub pairs-smaller : goal.pairs-smaller
 pairs-smaller g c =
     let run = c.pairs.run in
     let is_run = c.pairs.invariant.0 in
     let turns = c.in_ok-run-2.ensures.turns in
+    let next = c.in_ok-run-2.ensures.run c.args.given.now c.requires.given is_run.journal is_run.sparing in
     turn-less (g.F.Ring.ops c.args.ring.now.coeffs) c.args.ring.now.vars (g.O.MonoOrder.cmp c.args.order.now) (g.F.Ring.laws c.args.ring.now.coeffs) (g.F.Ring.is_element c.args.ring.now.coeffs) (g.O.MonoOrder.laws c.args.order.now)
-    c.in-Some.pair.first c.in-Some.pair.second turns.0 run c.take.new.self c.in_ok-run-2.run' is_run.prepared (c.in_ok-run-2.ensures.run c.args.given.now is_run.journal).prepared is_run.elements c.in-Some.ensures turns.2
+    turns.0 run c.take.new.self c.in_ok-run-2.run' c.turn.new.queue is_run.prepared next.prepared
+    (entries-fewer (g.F.Ring.ops c.args.ring.now.coeffs) (g.F.Ring.is_element c.args.ring.now.coeffs) c.args.ring.now.vars (g.O.MonoOrder.cmp c.args.order.now) c.args.given.now c.in-Some.pair.first c.in-Some.pair.second run c.pairs.queue c.take.new.self is_run c.in-Some.ensures.takes) turns.2
 
 pub pairs-preserved : goal.pairs-preserved
 pairs-preserved g c =
     let run = c.pairs.run in
-    let (is_run, spent, limits, within) = c.pairs.invariant in
-    let (count, spends, turns) = c.in_ok-run-2.ensures.turns in (
-      c.in_ok-run-2.ensures.run c.args.given.now is_run.journal,
+    let (is_run, spent, limits, within, order) = c.pairs.invariant in
+    let (count, spends, turns) = c.in_ok-run-2.ensures.turns in
+    let takes = c.in-Some.ensures.takes in (
+      c.in_ok-run-2.ensures.run c.args.given.now c.requires.given is_run.journal is_run.sparing,
       subst (λ (js : List Entry). SpendsOn js 0 c.args.budget.now c.turn.new.budget) (sym turns.journal) (spends-entry (journal_of run.journal.items) turns.entry count spent turns.steps spends),
       limits-trans limits c.in_ok-run-2.ensures.limits,
       c.in_ok-run-2.ensures.still_within,
+      turns.order ∙ takes.order ∙ order,
     )
+
+pub returns-clause-complete : goal.returns-clause-complete
+returns-clause-complete g c = ?
 
 pub returns-clause-nonzero : goal.returns-clause-nonzero
 returns-clause-nonzero g c =
@@ -48,7 +65,7 @@ returns-clause-nonzero g c =
     let cmp = g.O.MonoOrder.cmp c.args.order.now in
     let order : OrdersMonomials cmp v = orders-monomials v cmp (g.O.MonoOrder.fits c.args.order.now) (g.O.MonoOrder.laws c.args.order.now) (g.O.MonoOrder.ties c.args.order.now) c.requires.suits in
     subst (AreNonzero (g.F.Ring.ops c.args.ring.now.coeffs)) (sym c.found.ensures.polys)
-    (run-nonzero (g.F.Ring.ops c.args.ring.now.coeffs) (g.F.Ring.laws c.args.ring.now.coeffs) (g.met.F.Field.field_laws c.args.ring.now.coeffs) (g.F.Ring.is_element c.args.ring.now.coeffs) v cmp order c.args.given.now c.requires.given c.pairs.run c.pairs.invariant.0)
+    (run-nonzero (g.F.Ring.ops c.args.ring.now.coeffs) (g.F.Ring.laws c.args.ring.now.coeffs) (g.met.F.Field.field_laws c.args.ring.now.coeffs) (g.F.Ring.is_element c.args.ring.now.coeffs) v cmp order c.args.given.now c.requires.given c.pairs.queue c.pairs.run c.pairs.invariant.0)
 
 pub returns-clause-groebner : goal.returns-clause-groebner
 returns-clause-groebner g c =
@@ -56,4 +73,4 @@ returns-clause-groebner g c =
     let cmp = g.O.MonoOrder.cmp c.args.order.now in
     let order : OrdersMonomials cmp v = orders-monomials v cmp (g.O.MonoOrder.fits c.args.order.now) (g.O.MonoOrder.laws c.args.order.now) (g.O.MonoOrder.ties c.args.order.now) c.requires.suits in
     subst (IsGroebnerBasis (g.F.Ring.ops c.args.ring.now.coeffs) cmp v c.args.given.now) (sym c.found.ensures.polys)
-    (run-basis (g.F.Ring.ops c.args.ring.now.coeffs) (g.F.Ring.laws c.args.ring.now.coeffs) (g.met.F.Field.field_laws c.args.ring.now.coeffs) (g.F.Ring.is_element c.args.ring.now.coeffs) v cmp order c.args.given.now c.requires.given c.pairs.run c.pairs.invariant.0 c.in_default.ensures.1)
+    (run-basis (g.F.Ring.ops c.args.ring.now.coeffs) (g.F.Ring.laws c.args.ring.now.coeffs) (g.met.F.Field.field_laws c.args.ring.now.coeffs) (g.F.Ring.is_element c.args.ring.now.coeffs) v cmp order c.args.given.now c.requires.given c.pairs.queue c.pairs.run c.pairs.invariant.0 c.in_default.ensures.takes.1)
