@@ -1,10 +1,11 @@
 -- How the loops that write ranks go on.
-use Rattle.std.proofs.Common.{◌≡◌, ℕ, suc, zero, add-one, ◌+◌, ◌-◌, ◌<◌, ◌≤◌, List, [], ◌∷◌, ◌++◌, length, take, drop, get_or, sym, ap, ◌∙◌, arith, IsTrue}
+use Rattle.std.proofs.Common.{◌≡◌, ℕ, suc, zero, add-one, ◌+◌, ◌-◌, ◌<◌, ◌≤◌, List, [], ◌∷◌, ◌++◌, length, take, drop, get_or, sym, ap, ap₂, ◌∙◌, arith, IsTrue}
 use Rattle.std.proofs.lemmas.List.{append_assoc, append-nil, drop-drop, drop_more, drop_all, length-take, length-drop, get_or-take, get_or-drop, take_all}
 use Rattle.rinv_algebra.specs.Monomial.{max_degree}
 use Rattle.rinv_algebra.specs.Ranks.{turned, graded_rank, block_rank}
 use Rattle.rinv_algebra.specs.BlockEnds.{sizes_from, rises_from}
 use Rattle.rinv_mono.proofs.BlockLoop.{begins-le}
+use Rattle.rinv_mono.proofs.PartialSums.{length-sizes}
 
 -- the place before those that were written
 turned-place : (a out whole : List ℕ) (k x : ℕ) → 0 < k → k ≤ length a → x ≡ get_or a (k - 1) 0 → whole ≡ out ++ turned (drop k a) → whole ++ (max_degree - x) ∷ [] ≡ out ++ turned (drop (k - 1) a)
@@ -38,8 +39,18 @@ part-ends a out whole s e k first h =
     h ∙ ap (λ (n : ℕ). out ++ turned (drop n (take (e - s) (drop s a)))) none
 
 -- the rank of all variables
-pub rank-all : (sums seen : List ℕ) (n : ℕ) → sizes_from 0 sums ≡ seen → length (sizes_from 0 sums) ≤ n → graded_rank (take (n - 0) (drop 0 (sizes_from 0 sums))) ≡ graded_rank seen
+rank-all : (sums seen : List ℕ) (n : ℕ) → sizes_from 0 sums ≡ seen → length (sizes_from 0 sums) ≤ n → graded_rank (take (n - 0) (drop 0 (sizes_from 0 sums))) ≡ graded_rank seen
 rank-all sums seen n e fits = ap graded_rank (take_all (n - 0) (sizes_from 0 sums) (omega (arith, fits)) ∙ e)
+
+pub rank-made : (sums seen begun made : List ℕ) (n : ℕ) → begun ≡ [] → made ≡ begun ++ graded_rank (take (n - 0) (drop 0 (sizes_from 0 sums))) → sizes_from 0 sums ≡ seen → n ≡ length sums → made ≡ graded_rank seen
+rank-made sums seen begun made n empty whole e count =
+    whole ∙ ap (λ (r : List ℕ). r ++ graded_rank (take (n - 0) (drop 0 (sizes_from 0 sums)))) empty ∙ rank-all sums seen n e (omega (arith, count, length-sizes 0 sums))
+
+-- and the same after a number
+pub rank-after : (sums seen begun made : List ℕ) (n d x : ℕ) → begun ≡ d ∷ [] → d ≡ x → made ≡ begun ++ graded_rank (take (n - 0) (drop 0 (sizes_from 0 sums))) → sizes_from 0 sums ≡ seen → n ≡ length sums → made ≡ x ∷ graded_rank seen
+rank-after sums seen begun made n d x one is whole e count =
+    whole ∙ ap (λ (r : List ℕ). r ++ graded_rank (take (n - 0) (drop 0 (sizes_from 0 sums)))) one
+    ∙ ap₂ (λ (y : ℕ) (r : List ℕ). y ∷ r) is (rank-all sums seen n e (omega (arith, count, length-sizes 0 sums)))
 
 -- the next block
 pub block-place : (ends a out whole : List ℕ) (k s : ℕ) → k < length ends → IsTrue (rises_from s (drop k ends)) → out ++ block_rank (sizes_from s (drop k ends)) (drop s a) ≡ whole
