@@ -73,13 +73,16 @@ module _ {E : Type 0} (o : RingOps E) (v : ℕ) (cmp : List ℕ → List ℕ →
         now : List Entry
         now = journal_of after.journal.items
 
+        here : length old < pairs_among (length list)
+        here = room
+
         more : length now ≡ length old + 1
         more = ap length turns.journal ∙ length-append old (turns.entry ∷ [])
 
         go : (after.elements.polys.items ≡ list) ⊎ Grows o cmp list after.elements.polys.items → pairs_left after.elements.polys.items now < pairs_left list old
-        go (inl e) = subst (λ (ps : List (Polynomial E)). pairs_left ps now < pairs_left list old) (sym e) (omega (arith, more, room, among-more (length list) (undivided list)))
+        go (inl e) = subst (λ (ps : List (Polynomial E)). pairs_left ps now < pairs_left list old) (sym e) (omega (arith, more, here, among-more (length list) (undivided list)))
         go (inr grows) =
             let fewer = grown-less list after.elements (prepared-nonzero o is_element v cmp before.elements prepared) prepared' grows in
             let longer : length after.elements.polys.items ≡ length list + 1 = ap length grows.whole ∙ length-append list (grows.rest ∷ []) in
             let up = among-up (length after.elements.polys.items + undivided after.elements.polys.items) (length list + undivided list) (omega (arith, longer, fewer)) in
-            omega (arith, more, room, up, among-more (length list) (undivided list))
+            omega (arith, more, here, up, among-more (length list) (undivided list))

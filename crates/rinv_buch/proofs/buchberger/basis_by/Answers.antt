@@ -1,7 +1,8 @@
-use Rattle.std.proofs.Common.{List, sym, subst, ◌∙◌, arith}
+use Rattle.std.proofs.Common.{List, sym, subst, subst₂, ◌∙◌, arith}
 use Rattle.std.proofs.lemmas.Result.{err_from_is_err_and}
 use Rattle.rinv_groebner.specs.Basis.{AreNonzero, IsGroebnerBasis}
-use Rattle.rinv_groebner.specs.Journal.{Entry}
+use Rattle.rinv_groebner.specs.Journal.{Entry, IsComplete}
+use Rattle.rinv_groebner.specs.Sparing.{IsSparing}
 use Rattle.rinv_groebner.specs.Orders.{OrdersMonomials}
 use Rattle.rinv_buch.specs.Kinds.{journal_of}
 use Rattle.rinv_buch.specs.Spent.{SpendsOn}
@@ -22,7 +23,7 @@ returns-in_err-run-clause-stop g c =
 pub pairs-init : goal.pairs-init
 pairs-init g c =
     let b = c.args.budget.now in
-    (c.in_ok-run.ensures.run, rw c.in_ok-run.ensures.empty (spends-nothing b (omega arith) (omega arith)), limits-refl b, c.requires.within, c.begun.ensures.order ∙ c.new.ensures.order)
+    (c.in_ok-run.ensures.run, rw c.in_ok-run.ensures.empty (spends-nothing b (omega arith) (omega arith)), limits-refl b, c.requires.within, c.begun.ensures.order ∙ c.new-queue.ensures.order)
 
 pub turn-requires-clause-selects : goal.turn-requires-clause-selects
 turn-requires-clause-selects g c =
@@ -57,7 +58,15 @@ pairs-preserved g c =
     )
 
 pub returns-clause-complete : goal.returns-clause-complete
-returns-clause-complete g c = ?
+returns-clause-complete g c =
+    let v = c.args.ring.now.vars in
+    let cmp = g.O.MonoOrder.cmp c.args.order.now in
+    let order : OrdersMonomials cmp v = orders-monomials v cmp (g.O.MonoOrder.fits c.args.order.now) (g.O.MonoOrder.laws c.args.order.now) (g.O.MonoOrder.ties c.args.order.now) c.requires.suits in
+    subst₂ (IsComplete (g.F.Ring.ops c.args.ring.now.coeffs) cmp) (sym c.found.ensures.journal) (sym c.found.ensures.polys)
+    (run-complete (g.F.Ring.ops c.args.ring.now.coeffs) (g.F.Ring.laws c.args.ring.now.coeffs) (g.met.F.Field.field_laws c.args.ring.now.coeffs) (g.F.Ring.is_element c.args.ring.now.coeffs) v cmp order c.args.given.now c.requires.given c.pairs.queue c.pairs.run c.pairs.invariant.0 c.in_default.ensures.takes.1)
+
+pub returns-clause-sparing : goal.returns-clause-sparing
+returns-clause-sparing g c = subst (IsSparing (g.F.Ring.ops c.args.ring.now.coeffs) (g.O.MonoOrder.cmp c.args.order.now) c.args.given.now) (sym c.found.ensures.journal) c.pairs.invariant.0.sparing
 
 pub returns-clause-nonzero : goal.returns-clause-nonzero
 returns-clause-nonzero g c =
