@@ -26,6 +26,12 @@ const HIGH: &[&[Term]] = &[&[(1, 6000, 0), (100, 0, 0)], &[(1, 0, 6000), (100, 0
 // x^2*y, x*y^2 and x*y: the third settles the pair of the first two.
 const CHAINED: &[&[Term]] = &[&[(1, 2, 1)], &[(1, 1, 2)], &[(1, 1, 1)]];
 
+const CHAINED_KINDS: &[EntryKind] = &[
+    EntryKind::Reduced { added: None },
+    EntryKind::Reduced { added: None },
+    EntryKind::Chain { by: 2 },
+];
+
 // Polynomials with the leading monomials x^2*y, x*y, x*y and y^2, and the places of those that stay in a reduced basis.
 const LED: &[&[Term]] = &[
     &[(1, 2, 1)],
@@ -130,18 +136,24 @@ fn spends_and_adds(alloc: Global, ring: &PolyRing<Gf>, lists: &[&[Term]]) -> boo
     }
 }
 
-// Whether the last pair of the run is settled by the third element.
-fn ends_by_chain(alloc: Global, ring: &PolyRing<Gf>, lists: &[&[Term]]) -> bool
+// Whether the entries of the run are of these kinds, and take no step.
+fn has_entries(alloc: Global, ring: &PolyRing<Gf>, lists: &[&[Term]], kinds: &[EntryKind]) -> bool
     requires vars { ring.now.vars ≡ 2 }
 {
     let mut spent = budget_of(None);
     let Ok(found) = run(alloc, ring, lists, &mut spent) else {
         return false;
     };
-    match found.journal.last() {
-        Some(entry) => entry.kind == EntryKind::Chain { by: 2 },
-        None => false,
+    if found.journal.len() != kinds.len() {
+        return false;
     }
+    'entries: for k in 0..kinds.len() {
+        let entry = &found.journal[k];
+        if entry.kind != kinds[k] || entry.steps > 0 {
+            return false;
+        }
+    }
+    true
 }
 
 // The reduced basis, where ten pairs and steps are enough.
@@ -237,8 +249,7 @@ fn ends_where_the_budget_or_the_limit_does(rt: HostRuntime) -> Result<(), Fail> 
 #[test]
 fn settles_by_a_third_element(rt: HostRuntime) -> Result<(), Fail> {
     let ring = PolyRing::new(Gf::new(101)?, 2);
-    assert!(rt; ends_by_chain(rt.alloc(), &ring, CHAINED));
-    assert!(rt; !ends_by_chain(rt.alloc(), &ring, LOW));
+    assert!(rt; has_entries(rt.alloc(), &ring, CHAINED, CHAINED_KINDS));
     Ok(())
 }
 
