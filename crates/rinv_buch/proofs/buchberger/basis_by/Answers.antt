@@ -14,6 +14,12 @@ use Rattle.rinv_buch.proofs.InVariables.{orders-monomials}
 use Rattle.rinv_buch.proofs.Endings.{run-complete, run-nonzero, run-basis}
 use Rattle.rinv_buch.proofs.buchberger.basis_by.Goals as goal
 
+pub begun-requires-clause-selects : goal.begun-requires-clause-selects
+begun-requires-clause-selects g c = subst (λ s. g.S.MonoOrder.fits s c.args.ring.now.vars) (sym c.new-queue.ensures.order) c.requires.selects
+
+pub begun-requires-clause-fresh : goal.begun-requires-clause-fresh
+begun-requires-clause-fresh g c = (c.new-queue.ensures.leads, c.new-queue.ensures.waiting)
+
 pub returns-in_err-run-clause-stop : goal.returns-in_err-run-clause-stop
 returns-in_err-run-clause-stop g c =
     let p = err_from_is_err_and c.from_residual.result c.from_residual.ensures.1 in
@@ -39,9 +45,8 @@ pairs-smaller g c =
     let run = c.pairs.run in
     let is_run = c.pairs.invariant.0 in
     let turns = c.in_ok-run-2.ensures.turns in
-    let next = c.in_ok-run-2.ensures.run c.args.given.now c.requires.given is_run.journal is_run.sparing in
     turn-less (g.F.Ring.ops c.args.ring.now.coeffs) c.args.ring.now.vars (g.O.MonoOrder.cmp c.args.order.now) (g.F.Ring.laws c.args.ring.now.coeffs) (g.F.Ring.is_element c.args.ring.now.coeffs) (g.O.MonoOrder.laws c.args.order.now)
-    turns.0 run c.take.new.self c.in_ok-run-2.run' c.turn.new.queue is_run.prepared next.prepared
+    turns.0 run c.take.new.self c.in_ok-run-2.run' c.turn.new.queue is_run.prepared (c.in_ok-run-2.ensures.run c.args.given.now c.requires.given is_run.journal is_run.sparing).prepared
     (entries-fewer (g.F.Ring.ops c.args.ring.now.coeffs) (g.F.Ring.is_element c.args.ring.now.coeffs) c.args.ring.now.vars (g.O.MonoOrder.cmp c.args.order.now) c.args.given.now c.in-Some.pair.first c.in-Some.pair.second run c.pairs.queue c.take.new.self is_run c.in-Some.ensures.takes) turns.2
 
 pub pairs-preserved : goal.pairs-preserved
