@@ -1,5 +1,5 @@
 -- A pair that is taken from the queue of a run: it has no entry yet, and the pairs that were taken are those of the journal and this one.
-use Rattle.std.proofs.Common.{◌≡◌, ℕ, ◌+◌, ◌<◌, min, max, Bool, true, false, ◌||◌, ◌&&◌, ◌==◌, List, [], ◌∷◌, ◌++◌, length, length-append, map, refl, sym, ◌∙◌, ap, ap₂, arith, IsTrue}
+use Rattle.std.proofs.Common.{◌≡◌, ℕ, ◌+◌, ◌<◌, min, max, Bool, true, false, ◌||◌, ◌&&◌, ◌==◌, List, [], ◌∷◌, ◌++◌, length, length-append, sym, ◌∙◌, ap, ap₂, arith}
 use Rattle.std.specs.Prelude.{IsFalse, nat_lt, not}
 use Rattle.std.specs.List.{list_any}
 use Rattle.std.proofs.lemmas.Bool.Decides.{nat_tests}
@@ -10,7 +10,7 @@ use Rattle.rinv_algebra.specs.Polynomial.{Polynomial}
 use Rattle.rinv_algebra.specs.Leading.{leading_monomial}
 use Rattle.rinv_groebner.specs.Settled.{is_listed}
 use Rattle.rinv_groebner.specs.Journal.{Entry, pairs_of}
-use Rattle.rinv_pairs.specs.Pairs.{Pairs, Takes, is_taken, pairs_among}
+use Rattle.rinv_pairs.specs.Pairs.{Pairs, Takes, pairs_among}
 use Rattle.rinv_buch.specs.declared.run.Run.{Run}
 use Rattle.rinv_buch.specs.Kinds.{journal_of}
 use Rattle.rinv_buch.specs.Runs.{AreTaken, IsRun, IsTaking}
