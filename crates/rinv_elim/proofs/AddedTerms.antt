@@ -26,13 +26,14 @@ use Rattle.rinv_defs.specs.Invariant.{Fraction}
 use Rattle.rinv_defs.specs.Generators.{rational_ops}
 use Rattle.rinv_defs.specs.Extended.{FractionPoly}
 use Rattle.rinv_invariance.proofs.RelationClasses.{rationals, over_terms}
-use Rattle.rinv_frac.specs.Arithmetic.{uncancelled_sum, IsSum, IsProduct}
+use Rattle.rinv_frac.specs.declared.uncancelled.Joining.TheVariants.{Sum}
+use Rattle.rinv_frac.specs.Arithmetic.{uncancelled, IsSum, IsProduct}
 use Rattle.rinv_frac.proofs.Stored.{stored}
 use Rattle.rinv_frac.proofs.Values.{zero-value}
 use Rattle.rinv_frac.proofs.CancelledValues.{cancelled-value}
-use Rattle.rinv_frac.proofs.Sums.{sum-value, sum-nonzero, product-nonzero}
-use Rattle.rinv_elim.specs.Stored.{IsTail}
-use Rattle.rinv_elim.specs.Reducing.{IsAdded, new, summed, cancelled, AreAdded, start, next}
+use Rattle.rinv_frac.proofs.Sums.{sum-value, joined-nonzero, product-nonzero}
+use Rattle.rinv_tails.specs.Stored.{IsTail}
+use Rattle.rinv_tails.specs.Reducing.{IsAdded, new, summed, cancelled, AreAdded, start, next}
 
 module _ (s : System) where
   abbrev pub Q : RingOps Fraction
@@ -72,7 +73,7 @@ module _ (s : System) where
   tails_from (t ∷ f) a b = (All-head IsTermLike t f a, (below_from t.0 f (λ k d within. b zero (suc k) d (omega arith) (omega (arith, within))), tails_from f (All-tail IsTermLike t f a) (λ i j d low within. b (suc i) (suc j) d (omega (arith, low)) (omega (arith, within)))))
 
   -- a tail as it is stored is one
-  pub stored-tails : (f : FractionPoly) → IsTail s f → AreTails f
+  pub stored-tails : (f : FractionPoly) → IsTail s.p (space_count s) f → AreTails f
   stored-tails f t = tails_from f (λ k d within. let x = t.terms k d within in record { denominator = (stored s.p (space_count s) (get_or f k d).1 x.fraction).nonzero; nonzero = x.nonzero }) t.descending
 
   pub fractions-of : (f : FractionPoly) → AreTails f → AreFractions f
@@ -126,8 +127,8 @@ module _ (s : System) where
   -- a sum and a product as they are made
   pub sum-made : (d c e : Fraction) → is_zero (residue_ops s.p) d.1 ≡ false → is_zero (residue_ops s.p) c.1 ≡ false → IsSum (residue_ops s.p) d c e → (is_zero (residue_ops s.p) e.1 ≡ false) × (class Q e ≡ (rationals s).add (class Q d) (class Q c))
   sum-made d c e dn cn h =
-      let k = cancelled-value (residue_ops s.p) (laws s) (field s) (uncancelled_sum (residue_ops s.p) d c) e (sum-nonzero (residue_ops s.p) (laws s) (field s) d c dn cn) h in
-      (k.nonzero, class_sound Q q_laws e (uncancelled_sum (residue_ops s.p) d c) k.value ∙ class_sound Q q_laws _ _ (sum-value (residue_ops s.p) (laws s) (field s) d c dn cn) ∙ class-add Q q_laws d c)
+      let k = cancelled-value (residue_ops s.p) (laws s) (field s) (uncancelled (residue_ops s.p) Sum d c) e (joined-nonzero (residue_ops s.p) (laws s) (field s) Sum d c dn cn) h in
+      (k.nonzero, class_sound Q q_laws e (uncancelled (residue_ops s.p) Sum d c) k.value ∙ class_sound Q q_laws _ _ (sum-value (residue_ops s.p) (laws s) (field s) d c dn cn) ∙ class-add Q q_laws d c)
 
   pub product-made : (d c e : Fraction) → is_zero (residue_ops s.p) d.1 ≡ false → is_zero (residue_ops s.p) c.1 ≡ false → IsProduct (residue_ops s.p) d c e → (is_zero (residue_ops s.p) e.1 ≡ false) × (class Q e ≡ (rationals s).mul (class Q d) (class Q c))
   product-made d c e dn cn h =
@@ -143,7 +144,7 @@ module _ (s : System) where
   abbrev pub IsTailOf : FractionPoly → Class (poly_ops Q) → Type 0
   IsTailOf g x = AreTails g × (cls g ≡ x)
 
-  pub added-one : (m : List ℕ) (c : Fraction) (f g : FractionPoly) → is_zero (residue_ops s.p) c.1 ≡ false → AreTails f → IsAdded s m c f g → IsTailOf g (R.add (cls f) (term c m))
+  pub added-one : (m : List ℕ) (c : Fraction) (f g : FractionPoly) → is_zero (residue_ops s.p) c.1 ≡ false → AreTails f → IsAdded s.p (space_count s) m c f g → IsTailOf g (R.add (cls f) (term c m))
   added-one m c f _ cn h (new before after e tail) =
       (stored-tails (before ++ (m, c) ∷ after) tail, class-middle before after m c ∙ moved (cls before) (term c m) (cls after) ∙ ap (λ x. R.add x (term c m)) (sym (class-joined before after) ∙ ap cls (sym e)))
     where
@@ -173,7 +174,7 @@ module _ (s : System) where
 
   -- ---- a multiple of a tail
 
-  pub added-all : (n : List ℕ) (c : Fraction) (f terms g : FractionPoly) → is_zero (residue_ops s.p) c.1 ≡ false → AreFractions terms → AreTails f → AreAdded s n c f terms g → IsTailOf g (R.add (cls f) (R.mul (term c n) (cls terms)))
+  pub added-all : (n : List ℕ) (c : Fraction) (f terms g : FractionPoly) → is_zero (residue_ops s.p) c.1 ≡ false → AreFractions terms → AreTails f → AreAdded s.p (space_count s) n c f terms g → IsTailOf g (R.add (cls f) (R.mul (term c n) (cls terms)))
   added-all n c f _ _ cn dens h start = (h, nothing (cls f) (term c n) ∙ ap (λ x. R.add (cls f) (R.mul (term c n) x)) (sym (class-zero (poly_ops Q) (poly_laws Q q_laws))))
     where
       nothing : (x t : Class (poly_ops Q)) → x ≡ R.add x (R.mul t R.zero)

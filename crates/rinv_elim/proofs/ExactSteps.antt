@@ -31,7 +31,7 @@ use Rattle.rinv_groebner.proofs.MonomialLists.{quotient_divisor}
 use Rattle.rinv_groebner.proofs.Reducible.{first_passing}
 use Rattle.rinv_groebner.proofs.StepClasses.{class-term_product, class-difference}
 use Rattle.rinv_soundness.proofs.GeneratorLists.{all_at}
-use Rattle.rinv_defs.specs.System.{System}
+use Rattle.rinv_defs.specs.System.{System, space_count}
 use Rattle.rinv_defs.specs.Invariant.{Fraction}
 use Rattle.rinv_defs.specs.Extended.{Relation, FractionPoly, relation_poly, is_reducible}
 use Rattle.rinv_invariance.proofs.RelationClasses.{rationals, over_terms, relation-class}
@@ -40,7 +40,7 @@ use Rattle.rinv_reduction.specs.Localised.{none}
 use Rattle.rinv_reduction.proofs.RelationLeads.{relation-nonzero, lead_same, relation-one}
 use Rattle.rinv_reduction.proofs.KeptRelations.{divides_same}
 use Rattle.rinv_soundness.proofs.ExtendedIdeals.{laws}
-use Rattle.rinv_elim.specs.Reducing.{Reduces, begin, step}
+use Rattle.rinv_tails.specs.Reducing.{Reduces, begin, step}
 use Rattle.rinv_elim.proofs.AddedTerms.{Q, q_laws, R, cls, term, IsTermLike, AreBelow, AreTails, fractions-of, tails-without, tails-term, class-middle, class-joined, added-all}
 
 any-agree : {X : Type 0} (p q : X → Bool) → ((x : X) → p x ≡ q x) → (xs : List X) → list_any p xs ≡ list_any q xs
@@ -203,7 +203,7 @@ module _ (s : System) (rs : List Relation) where
     abbrev Run : FractionPoly → FractionPoly → Type 0
     Run f g = AreTails s g × ((steps : List (Step Fraction)) × Steps (Q s) grevlex hs f steps g)
 
-    exact-run : (f g : FractionPoly) → AreTails s f → Reduces s rs f g → Run f g
+    exact-run : (f g : FractionPoly) → AreTails s f → Reduces s.p (space_count s) rs f g → Run f g
     exact-run f _ h begin = (h, ([], start f ((poly_laws (Q s) (q_laws s)).same_refl f)))
     exact-run f _ h (step g k t place after_it run added) =
         let r = exact-run f g h run in
@@ -214,7 +214,7 @@ module _ (s : System) (rs : List Relation) where
         (more.0, (r.1.0 ++ (record { place = place; multiplier = (quotient t.0 (at place).lead, t.1) }) ∷ [], next r.1.0 g _ k r.1.1 (subst (λ (x : FractionPoly). IsStep (Q s) grevlex hs x (record { place = place; multiplier = (quotient t.0 (at place).lead, t.1) }) k) (sym after_it.stands) one)))
 
     -- the rest of a division
-    pub exact-division : (f g : FractionPoly) → AreTails s f → Reduces s rs f g → ((u : List ℕ × Fraction) → Contains g u → is_reducible rs u.0 ≡ false) → AreTails s g × ((steps : List (Step Fraction)) × IsDivision (Q s) grevlex hs f steps g)
+    pub exact-division : (f g : FractionPoly) → AreTails s f → Reduces s.p (space_count s) rs f g → ((u : List ℕ × Fraction) → Contains g u → is_reducible rs u.0 ≡ false) → AreTails s g × ((steps : List (Step Fraction)) × IsDivision (Q s) grevlex hs f steps g)
     exact-division f g h run whole =
         let r = exact-run f g h run in
         (r.0, (r.1.0, record { by_steps = r.1.1; irreducible = irreducible }))

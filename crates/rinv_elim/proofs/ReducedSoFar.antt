@@ -13,20 +13,20 @@ use Rattle.rinv_defs.specs.System.{System, space_count}
 use Rattle.rinv_defs.specs.Extended.{Relation, FractionPoly}
 use Rattle.rinv_reduction.specs.Localised.{none}
 use Rattle.rinv_reduction.specs.Tails.{AreReduced, IsReducedBy}
-use Rattle.rinv_elim.specs.Stored.{IsTailTerm, IsStoredRelation}
-use Rattle.rinv_elim.specs.Reducing.{AreReducedSoFar}
+use Rattle.rinv_tails.specs.Stored.{IsTailTerm, IsStoredRelation}
+use Rattle.rinv_tails.specs.Reducing.{AreReducedSoFar}
 use Rattle.rinv_elim.proofs.AddedTerms.{AreTails, stored-tails}
 use Rattle.rinv_elim.proofs.ExactSteps.{exact-division}
 
 module _ (s : System) where
-  in_variables-from : (f : FractionPoly) → All (IsTailTerm s) f → IsTrue (is_in_variables (space_count s) f)
+  in_variables-from : (f : FractionPoly) → All (IsTailTerm s.p (space_count s)) f → IsTrue (is_in_variables (space_count s) f)
   in_variables-from [] h = refl
-  in_variables-from (t ∷ f) h = let e = (All-head (IsTailTerm s) t f h).vars in and_true _ _ (grind (arith, nat_tests, e)) (in_variables-from f (All-tail (IsTailTerm s) t f h))
+  in_variables-from (t ∷ f) h = let e = (All-head (IsTailTerm s.p (space_count s)) t f h).vars in and_true _ _ (grind (arith, nat_tests, e)) (in_variables-from f (All-tail (IsTailTerm s.p (space_count s)) t f h))
 
-  pub reduced-tails : (rs qs : List Relation) → All (IsStoredRelation s) rs → All (IsStoredRelation s) qs → length qs ≡ length rs → AreReducedSoFar s rs qs → AreReduced s rs qs
+  pub reduced-tails : (rs qs : List Relation) → All (IsStoredRelation s.p (space_count s)) rs → All (IsStoredRelation s.p (space_count s)) qs → length qs ≡ length rs → AreReducedSoFar s.p (space_count s) rs qs → AreReduced s rs qs
   reduced-tails rs qs stored_rs stored_qs number so_far = record { number = number; each = each }
     where
-      tails : (qs : List Relation) → All (IsStoredRelation s) qs → (k : ℕ) → k < length qs → AreTails s (get_or qs k none).tail
+      tails : (qs : List Relation) → All (IsStoredRelation s.p (space_count s)) qs → (k : ℕ) → k < length qs → AreTails s (get_or qs k none).tail
       tails qs h k low = stored-tails s (get_or qs k none).tail (h k none low).tail
 
       low_in : (k j : ℕ) → j < length (take k qs) → j < k

@@ -1,0 +1,5 @@
+pub mod Tails
+pub mod Adding
+pub mod Multiples
+pub mod Steps
+pub mod ReducedLists

@@ -1,0 +1,97 @@
+-- A term is added to a tail.
+--   gap-added            where no term has its monomial
+--   sum-added            where one has
+--   added-below          what is below a monomial stays below it
+--   added-behind         terms above all others stay as they are
+use Rattle.std.proofs.Common.{◌≡◌, ℕ, suc, ◌<◌, ◌+◌, Bool, true, false, cond, List, [], ◌∷◌, ◌++◌, length, get_or, take, drop, take-append-drop, append_assoc, refl, sym, ◌∙◌, ap, subst, arith, All}
+use Rattle.std.specs.Prelude.{insert}
+use Rattle.std.proofs.lemmas.List.Elements.{All-head, All-tail, All-cons, All-append, All-get_or}
+use Rattle.std.specs.declared.cmp.Ordering.TheVariants.{Less}
+use Rattle.rinv_algebra.specs.Residue.{residue_ops}
+use Rattle.rinv_algebra.specs.Order.{grevlex}
+use Rattle.rinv_algebra.specs.Polynomial.{is_zero}
+use Rattle.rinv_algebra.proofs.Grevlex.{grevlex_laws}
+use Rattle.rinv_defs.specs.Invariant.{Fraction}
+use Rattle.rinv_defs.specs.Extended.{FractionPoly}
+use Rattle.rinv_frac.specs.Fractions.{IsStored}
+use Rattle.rinv_frac.specs.Arithmetic.{IsSum}
+use Rattle.rinv_tails.specs.Stored.{IsTailTerm, IsTail}
+use Rattle.rinv_tails.specs.Places.{IsThere, IsGap, with_sum}
+use Rattle.rinv_tails.specs.Reducing.{IsAdded, new, summed, cancelled}
+use Rattle.rinv_tails.proofs.Tails.{Below, Above, all-left, all-right, at-place, tail-left, tail-right, tail-term, tail-append, tail-without, tail-other, tail-between}
+
+module _ (p v : ℕ) where
+  -- a tail after a term was added
+  pub record IsMade (m : List ℕ) (c : Fraction) (f g : FractionPoly) : Type 0 where
+    pub added : IsAdded p v m c f g
+    pub tail : IsTail p v g
+
+  pub gap-added : (m : List ℕ) (c : Fraction) (f g : FractionPoly) (k : ℕ) → IsTailTerm p v (m, c) → IsTail p v f → IsGap m f k → g ≡ insert f k (m, c) → IsMade m c f g
+  gap-added m c f g k term tail gap e =
+      let whole = sym (take-append-drop k f) in
+      let made = tail-between p v (take k f) (drop k f) (m, c) term gap.above gap.below (subst (IsTail p v) whole tail) in
+      subst (IsMade m c f) (sym e) (record { added = new (take k f) (drop k f) whole made; tail = made })
+
+  pub sum-added : (m : List ℕ) (c there e : Fraction) (f g : FractionPoly) (k : ℕ) → IsTail p v f → IsThere m f k → there ≡ (get_or f k (m, there)).1 → IsStored p v e → IsSum (residue_ops p) there c e → g ≡ with_sum p f k (m, e) → IsMade m c f g
+  sum-added m c there e f g k tail is here stored sum made = subst (IsMade m c f) (sym made) (go (is_zero (residue_ops p) e.0) refl)
+    where
+      term : (m, there) ≡ get_or f k (m, there)
+      term = pair (get_or f k (m, there)) (is.same (m, there)) here
+        where
+          pair : (t : List ℕ × Fraction) → t.0 ≡ m → there ≡ t.1 → (m, there) ≡ t
+          pair t a b = rw (sym a, b) refl
+
+      split : f ≡ take k f ++ (m, there) ∷ drop (k + 1) f
+      split = subst (λ (j : ℕ). f ≡ take k f ++ (m, there) ∷ drop j f) (omega arith) (at-place f k (m, there) is.inside term)
+
+      whole : IsTail p v (take k f ++ (m, there) ∷ drop (k + 1) f)
+      whole = subst (IsTail p v) split tail
+
+      old : IsTailTerm p v (m, there)
+      old = tail-term p v (m, there) (drop (k + 1) f) (tail-right p v (take k f) ((m, there) ∷ drop (k + 1) f) whole)
+
+      go : (z : Bool) → is_zero (residue_ops p) e.0 ≡ z → IsMade m c f (take k f ++ (cond z (drop (k + 1) f) ((m, e) ∷ drop (k + 1) f)))
+      go true z = record {
+        added = cancelled (take k f) (drop (k + 1) f) there e split sum z;
+        tail = tail-without p v (take k f) (drop (k + 1) f) (m, there) whole;
+      }
+      go false z = record {
+        added = summed (take k f) (drop (k + 1) f) there e split sum z;
+        tail = tail-other p v (take k f) (drop (k + 1) f) m there e (record { vars = old.vars; low = old.low; fraction = stored; nonzero = z }) whole;
+      }
+
+  -- ---- what is below a monomial
+
+  pub added-below : (m n : List ℕ) (c : Fraction) (f g : FractionPoly) → grevlex m n ≡ Less → IsAdded p v m c f g → Below n f → Below n g
+  added-below m n c f _ less (new before after e tail) below =
+      let parts = subst (Below n) e below in
+      All-append (λ u. grevlex u.0 n ≡ Less) before ((m, c) ∷ after) (all-left (λ u. grevlex u.0 n ≡ Less) before after parts)
+      (All-cons (λ u. grevlex u.0 n ≡ Less) (m, c) after less (all-right (λ u. grevlex u.0 n ≡ Less) before after parts))
+  added-below m n c f _ less (summed before after d e w sum nonzero) below =
+      let parts = subst (Below n) w below in
+      let rest = all-right (λ u. grevlex u.0 n ≡ Less) before ((m, d) ∷ after) parts in
+      All-append (λ u. grevlex u.0 n ≡ Less) before ((m, e) ∷ after) (all-left (λ u. grevlex u.0 n ≡ Less) before ((m, d) ∷ after) parts)
+      (All-cons (λ u. grevlex u.0 n ≡ Less) (m, e) after less (All-tail (λ u. grevlex u.0 n ≡ Less) (m, d) after rest))
+  added-below m n c f _ less (cancelled before after d e w sum none) below =
+      let parts = subst (Below n) w below in
+      let rest = all-right (λ u. grevlex u.0 n ≡ Less) before ((m, d) ∷ after) parts in
+      All-append (λ u. grevlex u.0 n ≡ Less) before after (all-left (λ u. grevlex u.0 n ≡ Less) before ((m, d) ∷ after) parts) (All-tail (λ u. grevlex u.0 n ≡ Less) (m, d) after rest)
+
+  -- what is above n is above all that is below n
+  pub over : (n : List ℕ) (done g : FractionPoly) → All (λ t. grevlex n t.0 ≡ Less) done → Below n g → Above done g
+  over n done g above below k d within j e inside = grevlex_laws.total.trans (get_or g j e).0 n (get_or done k d).0 (below j e inside) (above k d within)
+
+  -- ---- behind terms that are above
+
+  pub added-behind : (m n : List ℕ) (c : Fraction) (done f g : FractionPoly) → IsTail p v done → All (λ t. grevlex n t.0 ≡ Less) done → grevlex m n ≡ Less → Below n f → IsAdded p v m c f g → IsAdded p v m c (done ++ f) (done ++ g)
+  added-behind m n c done f _ good above less below (new before after e tail) =
+      let under = added-below m n c f (before ++ (m, c) ∷ after) less (new before after e tail) below in
+      let whole = tail-append p v done (before ++ (m, c) ∷ after) good tail (over n done (before ++ (m, c) ∷ after) above under) in
+      subst (IsAdded p v m c (done ++ f)) (append_assoc done before ((m, c) ∷ after))
+      (new (done ++ before) after (ap (λ (h : FractionPoly). done ++ h) e ∙ sym (append_assoc done before after)) (subst (IsTail p v) (sym (append_assoc done before ((m, c) ∷ after))) whole))
+  added-behind m n c done f _ good above less below (summed before after d e w sum nonzero) =
+      subst (IsAdded p v m c (done ++ f)) (append_assoc done before ((m, e) ∷ after))
+      (summed (done ++ before) after d e (ap (λ (h : FractionPoly). done ++ h) w ∙ sym (append_assoc done before ((m, d) ∷ after))) sum nonzero)
+  added-behind m n c done f _ good above less below (cancelled before after d e w sum none) =
+      subst (IsAdded p v m c (done ++ f)) (append_assoc done before after)
+      (cancelled (done ++ before) after d e (ap (λ (h : FractionPoly). done ++ h) w ∙ sym (append_assoc done before ((m, d) ∷ after))) sum none)
