@@ -1,4 +1,5 @@
 pub mod Tails
+pub mod Gaps
 pub mod Adding
 pub mod Multiples
 pub mod Steps

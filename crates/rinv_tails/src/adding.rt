@@ -108,9 +108,9 @@ pub(crate) fn add_multiple(
     let multiplier = mono.quotient(alloc, &by.lead)?;
     'terms: for k in 0..by.tail.len() {
         let (factor, coefficient) = &by.tail[k];
-        let sum = field.mul(alloc, c, coefficient)?;
-        let mono = product(alloc, &multiplier, factor)?;
-        add_term(field, alloc, mono, sum, tail)?;
+        let multiple = field.mul(alloc, c, coefficient)?;
+        let at = product(alloc, &multiplier, factor)?;
+        add_term(field, alloc, at, multiple, tail)?;
     }
     Ok(())
 }

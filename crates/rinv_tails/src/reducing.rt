@@ -67,9 +67,8 @@ pub fn reduced_tails(field: &FracRing, alloc: Global, relations: Monic) -> Resul
     ensures made { IfOk result (AreReducedSoFar field.now.base.coeffs field.now.base.vars relations) }
     ensures degree { IfErr result (DegreesMeet (TailsMeet field.now.base.coeffs field.now.base.vars relations)) }
 {
-    let Monic { relations } = relations;
-    let mut reduced: Vec<FracRelation> = Vec::new(alloc);
-    'relations: for relation in relations {
+    let mut reduced = Vec::new(alloc);
+    'relations: for relation in relations.relations {
         let FracRelation { lead, tail } = relation;
         let tail = reduced_tail(field, alloc, &reduced, tail)?;
         reduced.push(FracRelation { lead, tail })?;
