@@ -20,16 +20,16 @@ use Rattle.rinv_parts.proofs.Names.{range-places}
 use Rattle.rinv_reduction.specs.Localised.{all_count}
 
 -- what two lists of one length make, place by place
-zipped-at : {A B C : Type 0} (g : A → B → C) (as : List A) (bs : List B) (k : ℕ) (a : A) (b : B) (z : C) → k < length as → k < length bs → get_or (map (λ c. g c.0 c.1) (zip as bs)) k z ≡ g (get_or as k a) (get_or bs k b)
-zipped-at g [] bs k a b z low few = absurd (omega arith)
-zipped-at g (x ∷ as) [] k a b z low few = absurd (omega (arith, few))
-zipped-at g (x ∷ as) (y ∷ bs) zero a b z low few = refl
-zipped-at g (x ∷ as) (y ∷ bs) (suc k) a b z low few = zipped-at g as bs k a b z (omega (arith, low)) (omega (arith, few))
+zipped-at : {A B C : Type 0} (g : A → B → C) (xs : List A) (ys : List B) (k : ℕ) (a : A) (b : B) (z : C) → k < length xs → k < length ys → get_or (map (λ c. g c.0 c.1) (zip xs ys)) k z ≡ g (get_or xs k a) (get_or ys k b)
+zipped-at g [] ys k a b z low few = absurd (omega arith)
+zipped-at g (x ∷ xs) [] k a b z low few = absurd (omega (arith, few))
+zipped-at g (x ∷ xs) (y ∷ ys) zero a b z low few = refl
+zipped-at g (x ∷ xs) (y ∷ ys) (suc k) a b z low few = zipped-at g xs ys k a b z (omega (arith, low)) (omega (arith, few))
 
-zipped-length : {A B C : Type 0} (g : A → B → C) (as : List A) (bs : List B) → length as ≡ length bs → length (map (λ c. g c.0 c.1) (zip as bs)) ≡ length as
-zipped-length g [] bs e = refl
-zipped-length g (x ∷ as) [] e = absurd (omega (arith, e))
-zipped-length g (x ∷ as) (y ∷ bs) e = ap suc (zipped-length g as bs (omega (arith, e)))
+zipped-length : {A B C : Type 0} (g : A → B → C) (xs : List A) (ys : List B) → length xs ≡ length ys → length (map (λ c. g c.0 c.1) (zip xs ys)) ≡ length xs
+zipped-length g [] ys e = refl
+zipped-length g (x ∷ xs) [] e = absurd (omega (arith, e))
+zipped-length g (x ∷ xs) (y ∷ ys) e = ap suc (zipped-length g xs ys (omega (arith, e)))
 
 -- pairs of two lists, one after the other
 pairs-append : {X : Type 0} (R : X → X → Type 0) (xs ys : List X) → AllPairs R xs → AllPairs R ys → All (λ x. All (R x) ys) xs → AllPairs R (xs ++ ys)

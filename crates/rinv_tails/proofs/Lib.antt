@@ -1,6 +1,6 @@
 pub mod Tails
 pub mod Gaps
-pub mod Adding
+pub mod AddedTerms
 pub mod Multiples
 pub mod Steps
 pub mod ReducedLists

@@ -40,7 +40,7 @@ use Rattle.rinv_frac.proofs.Sums.{product-nonzero}
 use Rattle.rinv_frac.proofs.Values.{zero-value}
 use Rattle.rinv_tails.specs.Stored.{IsTailTerm, IsTail, IsStoredRelation}
 use Rattle.rinv_tails.specs.Reducing.{IsAdded, AreAdded, start, next, AddingMeets, MultipleMeets}
-use Rattle.rinv_tails.proofs.Adding.{IsMade, added-below, added-behind}
+use Rattle.rinv_tails.proofs.AddedTerms.{IsMade, added-below, added-behind}
 use Rattle.rinv_tails.proofs.Tails.{Below, all-left, all-right, at-place, take-at}
 
 -- what is less in grevlex has no greater degree

@@ -24,7 +24,7 @@ use Rattle.rinv_tails.specs.Stored.{IsTailTerm, IsTail, IsStoredRelation, none}
 use Rattle.rinv_tails.specs.Reducing.{IsNextTerm, Reduces, begin, step, AreAdded, MultipleMeets, StepMeets, TailMeets}
 use Rattle.rinv_tails.proofs.Multiples.{AreUnder, factor-below, multiple-behind, meets-behind}
 use Rattle.rinv_tails.proofs.Tails.{Below, Above, all-left, all-right, tail-nil, tail-term, tail-rest, tail-below, tail-left, tail-right, tail-above, tail-append, tail-push}
-use Rattle.rinv_tails.proofs.Adding.{over}
+use Rattle.rinv_tails.proofs.AddedTerms.{over}
 
 -- the first of a list that is not empty
 pub taken-first : {X : Type 0} (xs ys : List X) (x : X) → 0 < length xs → x ≡ get_or xs 0 x → ys ≡ remove xs 0 → xs ≡ x ∷ ys

@@ -25,7 +25,8 @@ fn first_divisor(relations: &[FracRelation], mono: &Mono) -> Option<usize>
     ensures none { IfNone result (IsFalse (is_reducible relations.now mono.now)) }
 {
     'relations: for k in 0..relations.len() {
-        if relations[k].lead.divides(mono) {
+        let relation = &relations[k];
+        if relation.lead.divides(mono) {
             return Some(k);
         }
     }
