@@ -1,48 +1,66 @@
 -- A term is added to a tail.
 --   gap-added            where no term has its monomial
 --   sum-added            where one has
+--   there-meets          the degrees that this may answer
 --   added-below          what is below a monomial stays below it
 --   added-behind         terms above all others stay as they are
 use Rattle.std.proofs.Common.{◌≡◌, ℕ, suc, ◌<◌, ◌+◌, Bool, true, false, cond, List, [], ◌∷◌, ◌++◌, length, get_or, take, drop, take-append-drop, append_assoc, refl, sym, ◌∙◌, ap, subst, arith, All}
-use Rattle.std.specs.Prelude.{insert}
+use Rattle.std.specs.Prelude.{insert, Contains}
 use Rattle.std.proofs.lemmas.List.Elements.{All-head, All-tail, All-cons, All-append, All-get_or}
 use Rattle.std.specs.declared.cmp.Ordering.TheVariants.{Less}
 use Rattle.rinv_algebra.specs.Residue.{residue_ops}
 use Rattle.rinv_algebra.specs.Order.{grevlex}
 use Rattle.rinv_algebra.specs.Polynomial.{is_zero}
 use Rattle.rinv_algebra.proofs.Grevlex.{grevlex_laws}
+use Rattle.rinv_ring.specs.Fault.{DegreesMeet}
+use Rattle.rinv_ring.specs.Operation.{adds}
+use Rattle.rinv_ring.specs.declared.fault.RingFault.{RingFault}
+use Rattle.rinv_poly.proofs.Meets.{meet-weaker}
 use Rattle.rinv_defs.specs.Invariant.{Fraction}
 use Rattle.rinv_defs.specs.Extended.{FractionPoly}
 use Rattle.rinv_frac.specs.Fractions.{IsStored}
 use Rattle.rinv_frac.specs.Arithmetic.{IsSum}
+use Rattle.rinv_frac.specs.Faults.{fractions_meet}
 use Rattle.rinv_tails.specs.Stored.{IsTailTerm, IsTail}
 use Rattle.rinv_tails.specs.Places.{IsThere, IsGap, with_sum}
-use Rattle.rinv_tails.specs.Reducing.{IsAdded, new, summed, cancelled}
+use Rattle.rinv_tails.specs.Reducing.{AddingMeets, IsAdded, AddsTerm, new, summed, cancelled}
 use Rattle.rinv_tails.proofs.Tails.{Below, Above, all-left, all-right, at-place, tail-left, tail-right, tail-term, tail-append, tail-without, tail-other, tail-between}
 
 module _ (p v : ℕ) where
-  -- a tail after a term was added
-  pub record IsMade (m : List ℕ) (c : Fraction) (f g : FractionPoly) : Type 0 where
-    pub added : IsAdded p v m c f g
-    pub tail : IsTail p v g
-
-  pub gap-added : (m : List ℕ) (c : Fraction) (f g : FractionPoly) (k : ℕ) → IsTailTerm p v (m, c) → IsTail p v f → IsGap m f k → g ≡ insert f k (m, c) → IsMade m c f g
+  pub gap-added : (m : List ℕ) (c : Fraction) (f g : FractionPoly) (k : ℕ) → IsTailTerm p v (m, c) → IsTail p v f → IsGap m f k → g ≡ insert f k (m, c) → AddsTerm p v m c f g
   gap-added m c f g k term tail gap e =
       let whole = sym (take-append-drop k f) in
       let made = tail-between p v (take k f) (drop k f) (m, c) term gap.above gap.below (subst (IsTail p v) whole tail) in
-      subst (IsMade m c f) (sym e) (record { added = new (take k f) (drop k f) whole made; tail = made })
+      subst (AddsTerm p v m c f) (sym e) (record { added = new (take k f) (drop k f) whole made; tail = made })
 
-  pub sum-added : (m : List ℕ) (c there e : Fraction) (f g : FractionPoly) (k : ℕ) → IsTail p v f → IsThere m f k → there ≡ (get_or f k (m, there)).1 → IsStored p v e → IsSum (residue_ops p) there c e → g ≡ with_sum p f k (m, e) → IsMade m c f g
-  sum-added m c there e f g k tail is here stored sum made = subst (IsMade m c f) (sym made) (go (is_zero (residue_ops p) e.0) refl)
+  -- the term at the place of the monomial
+  module _ (m : List ℕ) (f : FractionPoly) (k : ℕ) (is : IsThere m f k) (r : List ℕ × Fraction) (here : r ≡ get_or f k r) where
+    one : (t : List ℕ × Fraction) → t.0 ≡ m → (m, t.1) ≡ t
+    one (n, c) e = ap (λ (x : List ℕ). (x, c)) (sym e)
+
+    pub term-is : (m, r.1) ≡ r
+    term-is = one r (ap (λ (t : List ℕ × Fraction). t.0) here ∙ is.same r)
+
+    pub term-split : f ≡ take k f ++ (m, r.1) ∷ drop (k + 1) f
+    term-split =
+        let j : suc k ≡ k + 1 = omega arith in
+        subst (λ (t : List ℕ × Fraction). f ≡ take k f ++ t ∷ drop (k + 1) f) (sym term-is) (subst (λ (i : ℕ). f ≡ take k f ++ r ∷ drop i f) j (at-place f k r is.inside here))
+
+    pub term-stands : Contains f (m, r.1)
+    term-stands = subst (Contains f) (sym term-is) (k, is.inside, here)
+
+    -- degrees are met as a fraction is added there
+    pub there-meets : (c : Fraction) (fault : RingFault) → DegreesMeet (fractions_meet (residue_ops p) adds r.1 c) fault → DegreesMeet (AddingMeets p v m c f) fault
+    there-meets c = meet-weaker (fractions_meet (residue_ops p) adds r.1 c) (AddingMeets p v m c f) (λ x y meets. (r.1, term-stands, meets))
+
+  pub sum-added : (m : List ℕ) (c e : Fraction) (r : List ℕ × Fraction) (f g : FractionPoly) (k : ℕ) → IsTail p v f → IsThere m f k → r ≡ get_or f k r → IsStored p v e → IsSum (residue_ops p) r.1 c e → g ≡ with_sum p f k (m, e) → AddsTerm p v m c f g
+  sum-added m c e r f g k tail is here stored sum made = subst (AddsTerm p v m c f) (sym made) (go (is_zero (residue_ops p) e.0) refl)
     where
-      term : (m, there) ≡ get_or f k (m, there)
-      term = pair (get_or f k (m, there)) (is.same (m, there)) here
-        where
-          pair : (t : List ℕ × Fraction) → t.0 ≡ m → there ≡ t.1 → (m, there) ≡ t
-          pair t a b = rw (sym a, b) refl
+      there : Fraction
+      there = r.1
 
-      split : f ≡ take k f ++ (m, there) ∷ drop (k + 1) f
-      split = subst (λ (j : ℕ). f ≡ take k f ++ (m, there) ∷ drop j f) (omega arith) (at-place f k (m, there) is.inside term)
+      split : f ≡ take k f ++ (m, r.1) ∷ drop (k + 1) f
+      split = term-split m f k is r here
 
       whole : IsTail p v (take k f ++ (m, there) ∷ drop (k + 1) f)
       whole = subst (IsTail p v) split tail
@@ -50,7 +68,7 @@ module _ (p v : ℕ) where
       old : IsTailTerm p v (m, there)
       old = tail-term p v (m, there) (drop (k + 1) f) (tail-right p v (take k f) ((m, there) ∷ drop (k + 1) f) whole)
 
-      go : (z : Bool) → is_zero (residue_ops p) e.0 ≡ z → IsMade m c f (take k f ++ (cond z (drop (k + 1) f) ((m, e) ∷ drop (k + 1) f)))
+      go : (z : Bool) → is_zero (residue_ops p) e.0 ≡ z → AddsTerm p v m c f (take k f ++ cond z (drop (k + 1) f) ((m, e) ∷ drop (k + 1) f))
       go true z = record {
         added = cancelled (take k f) (drop (k + 1) f) there e split sum z;
         tail = tail-without p v (take k f) (drop (k + 1) f) (m, there) whole;

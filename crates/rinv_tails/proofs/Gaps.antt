@@ -8,7 +8,7 @@ use Rattle.std.specs.declared.cmp.Ordering.{Ordering}
 use Rattle.std.specs.declared.cmp.Ordering.TheVariants.{Less, Equal, Greater}
 use Rattle.std.proofs.lemmas.List.Elements.{All-more}
 use Rattle.rinv_algebra.specs.Order.{grevlex}
-use Rattle.rinv_algebra.proofs.Grevlex.{grevlex_laws}
+use Rattle.rinv_algebra.proofs.Grevlex.{grevlex_laws, grevlex_ties}
 use Rattle.rinv_defs.specs.Invariant.{Fraction}
 use Rattle.rinv_defs.specs.Extended.{FractionPoly}
 use Rattle.rinv_tails.specs.Places.{IsThere, IsGap}
@@ -21,8 +21,20 @@ module _ (m : List ℕ) (f : FractionPoly) (k : ℕ) where
   pub above-more : (t : List ℕ × Fraction) → k < length f → t ≡ get_or f k t → All (λ u. grevlex m u.0 ≡ Less) (take k f) → grevlex t.0 m ≡ Greater → All (λ u. grevlex m u.0 ≡ Less) (take (k + 1) f)
   above-more t low here above e = All-more (λ u. grevlex m u.0 ≡ Less) f k t low above (subst (λ (u : List ℕ × Fraction). grevlex m u.0 ≡ Less) here (less-from_greater t.0 m e))
 
-  pub is-there : k < length f → ((t : List ℕ × Fraction) → (get_or f k t).0 ≡ m) → IsThere m f k
-  is-there low same = record { inside = low; same = same }
+  -- whatever stands for what is missing
+  first : (t : List ℕ × Fraction) → k < length f → t ≡ get_or f k t → (d : List ℕ × Fraction) → get_or f k d ≡ t
+  first t low here d = same f k low ∙ sym here
+    where
+      same : (f : FractionPoly) (k : ℕ) → k < length f → get_or f k d ≡ get_or f k t
+      same [] k low = absurd (omega arith)
+      same (x ∷ f) zero low = refl
+      same (x ∷ f) (suc k) low = same f k (omega (arith, low))
+
+  pub is-there : (t : List ℕ × Fraction) → k < length f → t ≡ get_or f k t → length t.0 ≡ length m → grevlex t.0 m ≡ Equal → IsThere m f k
+  is-there t low here many ties = record {
+    inside = low;
+    same = λ d. subst (λ (u : List ℕ × Fraction). u.0 ≡ m) (sym (first t low here d)) (grevlex_ties t.0 m many ties);
+  }
 
   pub gap-before : (t : List ℕ × Fraction) → AllPairs (λ s u. grevlex u.0 s.0 ≡ Less) f → k < length f → t ≡ get_or f k t → All (λ u. grevlex m u.0 ≡ Less) (take k f) → grevlex t.0 m ≡ Less → IsGap m f k
   gap-before t down low here above less = record {
@@ -31,18 +43,10 @@ module _ (m : List ℕ) (f : FractionPoly) (k : ℕ) where
     below = λ j d within. subst (λ (u : List ℕ × Fraction). grevlex u.0 m ≡ Less) (sym (get_or-drop k f j d)) (at j d (let l = length-drop k f in omega (arith, within, l)));
   }
     where
-      first : (d : List ℕ × Fraction) → get_or f k d ≡ t
-      first d = same f k low ∙ sym here
-        where
-          same : (f : FractionPoly) (k : ℕ) → k < length f → get_or f k d ≡ get_or f k t
-          same [] k low = absurd (omega arith)
-          same (x ∷ f) zero low = refl
-          same (x ∷ f) (suc k) low = same f k (omega (arith, low))
-
       at : (j : ℕ) (d : List ℕ × Fraction) → k + j < length f → grevlex (get_or f (k + j) d).0 m ≡ Less
-      at zero d within = let e : k + 0 ≡ k = omega arith in subst (λ (i : ℕ). grevlex (get_or f i d).0 m ≡ Less) (sym e) (subst (λ (u : List ℕ × Fraction). grevlex u.0 m ≡ Less) (sym (first d)) less)
+      at zero d within = let e : k + 0 ≡ k = omega arith in subst (λ (i : ℕ). grevlex (get_or f i d).0 m ≡ Less) (sym e) (subst (λ (u : List ℕ × Fraction). grevlex u.0 m ≡ Less) (sym (first t low here d)) less)
       at (suc j) d within = grevlex_laws.total.trans (get_or f (k + suc j) d).0 t.0 m
-          (subst (λ (u : List ℕ × Fraction). grevlex (get_or f (k + suc j) d).0 u.0 ≡ Less) (first d) (down k (k + suc j) d (omega arith) within)) less
+          (subst (λ (u : List ℕ × Fraction). grevlex (get_or f (k + suc j) d).0 u.0 ≡ Less) (first t low here d) (down k (k + suc j) d (omega arith) within)) less
 
   pub gap-end : length f ≤ k → All (λ u. grevlex m u.0 ≡ Less) (take k f) → IsGap m f (length f)
   gap-end all above = record {

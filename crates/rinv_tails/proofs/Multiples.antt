@@ -40,7 +40,7 @@ use Rattle.rinv_frac.proofs.Sums.{product-nonzero}
 use Rattle.rinv_frac.proofs.Values.{zero-value}
 use Rattle.rinv_tails.specs.Stored.{IsTailTerm, IsTail, IsStoredRelation}
 use Rattle.rinv_tails.specs.Reducing.{IsAdded, AreAdded, start, next, AddingMeets, MultipleMeets}
-use Rattle.rinv_tails.proofs.AddedTerms.{IsMade, added-below, added-behind}
+use Rattle.rinv_tails.proofs.AddedTerms.{added-below, added-behind}
 use Rattle.rinv_tails.proofs.Tails.{Below, all-left, all-right, at-place, take-at}
 
 -- what is less in grevlex has no greater degree
@@ -148,7 +148,7 @@ module _ (p v : ℕ) where
       parts = at-place terms k t low here;
       so_far = g;
       is_so_far = so_far.added;
-      meets = inr (d, (made, subst (λ (z : List ℕ). AddingMeets p v z d g x y) is meets));
+      meets = inr (d, made, subst (λ (z : List ℕ). AddingMeets p v z d g x y) is meets);
     })
 
   -- ---- behind terms that are above
@@ -187,4 +187,4 @@ module _ (p v : ℕ) where
       moved : fractions_meet (residue_ops p) multiplies c h.factor.1 x y ⊎ ((product : Fraction) × IsProduct (residue_ops p) c h.factor.1 product × AddingMeets p v (monomial_product q h.factor.0) product h.so_far x y)
           → fractions_meet (residue_ops p) multiplies c h.factor.1 x y ⊎ ((product : Fraction) × IsProduct (residue_ops p) c h.factor.1 product × AddingMeets p v (monomial_product q h.factor.0) product (done ++ h.so_far) x y)
       moved (inl a) = inl a
-      moved (inr (product, made, there, stands, meets)) = inr (product, (made, (there, (Contains-append_right done h.so_far (monomial_product q h.factor.0, there) stands, meets))))
+      moved (inr (product, made, (there, stands, meets))) = inr (product, made, (there, Contains-append_right done h.so_far (monomial_product q h.factor.0, there) stands, meets))

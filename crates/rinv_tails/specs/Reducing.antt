@@ -32,6 +32,11 @@ module _ (p v : ℕ) where
     summed : (before after : FractionPoly) (d e : Fraction) → f ≡ before ++ (m, d) ∷ after → IsSum (residue_ops p) d c e → IsFalse (is_zero (residue_ops p) e.0) → IsAdded m c f (before ++ (m, e) ∷ after)
     cancelled : (before after : FractionPoly) (d e : Fraction) → f ≡ before ++ (m, d) ∷ after → IsSum (residue_ops p) d c e → IsTrue (is_zero (residue_ops p) e.0) → IsAdded m c f (before ++ after)
 
+  -- so it is, and g is a tail
+  pub record AddsTerm (m : List ℕ) (c : Fraction) (f g : FractionPoly) : Type 0 where
+    pub added : IsAdded m c f g
+    pub tail : IsTail p v g
+
   -- adding c at m meets these degrees in the sum with the coefficient that is there
   abbrev pub AddingMeets : List ℕ → Fraction → FractionPoly → ℕ → ℕ → Type 0
   AddingMeets m c f x y = (there : Fraction) × Contains f (m, there) × fractions_meet (residue_ops p) adds there c x y

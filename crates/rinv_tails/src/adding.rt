@@ -10,7 +10,7 @@ ghost use Rattle.rinv_ring.specs.Fault.{DegreesMeet};
 ghost use Rattle.rinv_frac.specs.Fractions.{IsStored};
 ghost use Rattle.rinv_tails.specs.Stored.{IsTail, IsTailTerm, IsStoredRelation};
 ghost use Rattle.rinv_tails.specs.Places.{IsThere, IsGap, with_sum};
-ghost use Rattle.rinv_tails.specs.Reducing.{IsAdded, AreAdded, AddingMeets, MultipleMeets};
+ghost use Rattle.rinv_tails.specs.Reducing.{AddsTerm, AreAdded, AddingMeets, MultipleMeets};
 
 use crate::relations::{FracRelation, Tail};
 use rinv_frac::{Frac, FracRing};
@@ -49,7 +49,28 @@ fn put_sum(field: &FracRing, place: usize, mono: Mono, sum: Frac, tail: &mut Tai
     }
 }
 
-/// Adds the fraction at the monomial.
+// Adds the fraction to the term at the place.
+fn add_there(
+    field: &FracRing,
+    alloc: Global,
+    place: usize,
+    mono: Mono,
+    c: &Frac,
+    tail: &mut Tail,
+) -> Result<(), RingFault>
+    requires there { IsThere mono tail.old.items place }
+    requires fraction { IsStored field.now.base.coeffs field.now.base.vars c.now }
+    requires tail { IsTail field.now.base.coeffs field.now.base.vars tail.old.items }
+    ensures added { OnOk result (AddsTerm field.now.base.coeffs field.now.base.vars mono c.now tail.old.items tail.new.items) }
+    ensures degree { IfErr result (DegreesMeet (AddingMeets field.now.base.coeffs field.now.base.vars mono c.now tail.old.items)) }
+{
+    let (_, there) = &tail[place];
+    let sum = field.add(alloc, there, c)?;
+    put_sum(field, place, mono, sum, tail);
+    Ok(())
+}
+
+// Adds the fraction at the monomial.
 fn add_term(
     field: &FracRing,
     alloc: Global,
@@ -59,18 +80,16 @@ fn add_term(
 ) -> Result<(), RingFault>
     requires term { IsTailTerm field.now.base.coeffs field.now.base.vars (mono, c) }
     requires tail { IsTail field.now.base.coeffs field.now.base.vars tail.old.items }
-    ensures added { OnOk result (IsAdded field.now.base.coeffs field.now.base.vars mono c tail.old.items tail.new.items) }
-    ensures tail { OnOk result (IsTail field.now.base.coeffs field.now.base.vars tail.new.items) }
+    ensures added { OnOk result (AddsTerm field.now.base.coeffs field.now.base.vars mono c tail.old.items tail.new.items) }
     ensures degree { IfErr result (DegreesMeet (AddingMeets field.now.base.coeffs field.now.base.vars mono c tail.old.items)) }
 {
     match place_of(&mono, tail) {
-        Ok(place) => {
-            let sum = field.add(alloc, &tail[place].1, &c)?;
-            put_sum(field, place, mono, sum, tail);
+        Ok(place) => add_there(field, alloc, place, mono, &c, tail),
+        Err(place) => {
+            tail.insert(place, (mono, c))?;
+            Ok(())
         }
-        Err(place) => tail.insert(place, (mono, c))?,
     }
-    Ok(())
 }
 
 // The product of monomials whose degrees add up to no more than the limit.
