@@ -1,17 +1,21 @@
 -- A term is added to a tail.
 --   gap-added            where no term has its monomial
+--   put-removed, put-replaced    what stands at a place after a sum
 --   sum-added            where one has
 --   there-meets          the degrees that this may answer
 --   added-below          what is below a monomial stays below it
 --   added-behind         terms above all others stay as they are
 use Rattle.std.proofs.Common.{◌≡◌, ℕ, suc, ◌<◌, ◌+◌, Bool, true, false, cond, List, [], ◌∷◌, ◌++◌, length, get_or, take, drop, take-append-drop, append_assoc, refl, sym, ◌∙◌, ap, subst, arith, All}
-use Rattle.std.specs.Prelude.{insert, Contains}
+use Rattle.std.specs.Prelude.{insert, remove, slice_set, Contains}
+use Rattle.std.proofs.lemmas.List.{set_split}
 use Rattle.std.proofs.lemmas.List.Elements.{All-head, All-tail, All-cons, All-append, All-get_or}
 use Rattle.std.specs.declared.cmp.Ordering.TheVariants.{Less}
 use Rattle.rinv_algebra.specs.Residue.{residue_ops}
 use Rattle.rinv_algebra.specs.Order.{grevlex}
 use Rattle.rinv_algebra.specs.Polynomial.{is_zero}
+use Rattle.rinv_algebra.specs.Fraction.{fraction_ops}
 use Rattle.rinv_algebra.proofs.Grevlex.{grevlex_laws}
+use Rattle.rinv_algebra.proofs.ResidueLaws.{residue_laws}
 use Rattle.rinv_ring.specs.Fault.{DegreesMeet}
 use Rattle.rinv_ring.specs.Operation.{adds}
 use Rattle.rinv_ring.specs.declared.fault.RingFault.{RingFault}
@@ -21,6 +25,8 @@ use Rattle.rinv_defs.specs.Extended.{FractionPoly}
 use Rattle.rinv_frac.specs.Fractions.{IsStored}
 use Rattle.rinv_frac.specs.Arithmetic.{IsSum}
 use Rattle.rinv_frac.specs.Faults.{fractions_meet}
+use Rattle.rinv_frac.proofs.Stored.{stored}
+use Rattle.rinv_frac.proofs.Values.{zero-value}
 use Rattle.rinv_tails.specs.Stored.{IsTailTerm, IsTail}
 use Rattle.rinv_tails.specs.Places.{IsThere, IsGap, with_sum}
 use Rattle.rinv_tails.specs.Reducing.{AddingMeets, IsAdded, AddsTerm, new, summed, cancelled}
@@ -54,7 +60,7 @@ module _ (p v : ℕ) where
     there-meets c = meet-weaker (fractions_meet (residue_ops p) adds r.1 c) (AddingMeets p v m c f) (λ x y meets. (r.1, term-stands, meets))
 
   pub sum-added : (m : List ℕ) (c e : Fraction) (r : List ℕ × Fraction) (f g : FractionPoly) (k : ℕ) → IsTail p v f → IsThere m f k → r ≡ get_or f k r → IsStored p v e → IsSum (residue_ops p) r.1 c e → g ≡ with_sum p f k (m, e) → AddsTerm p v m c f g
-  sum-added m c e r f g k tail is here stored sum made = subst (AddsTerm p v m c f) (sym made) (go (is_zero (residue_ops p) e.0) refl)
+  sum-added m c e r f g k tail is here good sum made = subst (AddsTerm p v m c f) (sym made) (go (is_zero (residue_ops p) e.0) refl)
     where
       there : Fraction
       there = r.1
@@ -75,8 +81,25 @@ module _ (p v : ℕ) where
       }
       go false z = record {
         added = summed (take k f) (drop (k + 1) f) there e split sum z;
-        tail = tail-other p v (take k f) (drop (k + 1) f) m there e (record { vars = old.vars; low = old.low; fraction = stored; nonzero = z }) whole;
+        tail = tail-other p v (take k f) (drop (k + 1) f) m there e (record { vars = old.vars; low = old.low; fraction = good; nonzero = z }) whole;
       }
+
+  -- what is put at a place, by whether the fraction is zero
+  module _ (f g : FractionPoly) (k : ℕ) (t : List ℕ × Fraction) (good : IsStored p v t.1) where
+    tested : (fraction_ops (residue_ops p)).same t.1 (fraction_ops (residue_ops p)).zero ≡ is_zero (residue_ops p) t.1.0
+    tested = zero-value (residue_ops p) (residue_laws p) t.1 (stored p v t.1 good).nonzero
+
+    abbrev put : ℕ → Bool → FractionPoly
+    put j z = take k f ++ cond z (drop j f) (t ∷ drop j f)
+
+    next_place : suc k ≡ k + 1
+    next_place = omega arith
+
+    pub put-removed : (fraction_ops (residue_ops p)).same t.1 (fraction_ops (residue_ops p)).zero ≡ true → g ≡ remove f k → g ≡ with_sum p f k t
+    put-removed z e = e ∙ ap (λ (j : ℕ). put j true) next_place ∙ ap (λ (b : Bool). put (k + 1) b) (sym z ∙ tested)
+
+    pub put-replaced : (fraction_ops (residue_ops p)).same t.1 (fraction_ops (residue_ops p)).zero ≡ false → k < length f → g ≡ slice_set f k t → g ≡ with_sum p f k t
+    put-replaced z low e = e ∙ set_split f k t low ∙ ap (λ (j : ℕ). put j false) next_place ∙ ap (λ (b : Bool). put (k + 1) b) (sym z ∙ tested)
 
   -- ---- what is below a monomial
 
