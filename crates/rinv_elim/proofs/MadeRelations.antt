@@ -1,5 +1,4 @@
 -- A relation whose tail was made term by term is the relation of its element.
---   IsSolved             how the terms were made
 --   solved-relation      the fact
 use Rattle.std.proofs.Common.{◌≡◌, ◌⊎◌, ℕ, zero, suc, Bool, true, false, cond, List, [], ◌∷◌, map, get_or, refl, sym, ◌∙◌, ap, subst, inl, inr, arith, IsTrue, true≢false}
 use Rattle.std.specs.Prelude.{IsFalse, All, AllPairs}
@@ -23,22 +22,10 @@ use Rattle.rinv_frac.specs.Cancelling.{IsCancelled}
 use Rattle.rinv_frac.proofs.Values.{zero-value}
 use Rattle.rinv_frac.proofs.CancelledValues.{one_nonzero}
 use Rattle.rinv_reduction.specs.Localised.{lead_in_z, z_coefficient, IsRelationOf}
+use Rattle.rinv_elim.specs.Localising.{IsSolution, IsSolved}
 use Rattle.rinv_elim.proofs.SolvedCoefficients.{solved-coefficient}
 
 module _ (s : System) (h : Poly) where
-  -- the coefficient of Z^b, and minus it by that of Z^a, cancelled
-  abbrev pub IsSolution : List ℕ → List ℕ → Fraction → Type 0
-  IsSolution a b x = IsCancelled (residue_ops s.p) (opposite (residue_ops s.p) (z_coefficient s h b), z_coefficient s h a) x
-
-  -- each term is made so, each monomial in Z but the lead comes once, and none is left out
-  pub record IsSolved (r : Relation) : Type 0 where
-    pub lead : IsTrue (same_monomial r.lead (lead_in_z s h))
-    pub divisor : IsFalse (is_zero (residue_ops s.p) (z_coefficient s h r.lead))
-    pub others : All (λ t. IsFalse (same_monomial r.lead t.0)) r.tail
-    pub made : All (λ t. IsSolution r.lead t.0 t.1) r.tail
-    pub once : AllPairs (λ t u. IsFalse (same_monomial u.0 t.0)) r.tail
-    pub whole : (b : List ℕ) → IsFalse (same_monomial r.lead b) → IsAbsent b r.tail → IsTrue (is_zero (residue_ops s.p) (z_coefficient s h b))
-
   abbrev Q : RingOps Fraction
   Q = rational_ops s.p
 
@@ -54,27 +41,27 @@ module _ (s : System) (h : Poly) where
 
   -- a monomial is absent, or the coefficient there is the solution
   abbrev Looked : List ℕ → List ℕ → FractionPoly → Type 0
-  Looked a b f = IsAbsent b f ⊎ ((x : Fraction) × IsSolution a b x × IsSame Q (coefficient Q f b) x)
+  Looked a b f = IsAbsent b f ⊎ ((x : Fraction) × IsSolution s h a b x × IsSame Q (coefficient Q f b) x)
 
-  look : (a b : List ℕ) (f : FractionPoly) → All (λ t. IsSolution a t.0 t.1) f → AllPairs (λ t u. IsFalse (same_monomial u.0 t.0)) f → Looked a b f
+  look : (a b : List ℕ) (f : FractionPoly) → All (λ t. IsSolution s h a t.0 t.1) f → AllPairs (λ t u. IsFalse (same_monomial u.0 t.0)) f → Looked a b f
   unfolding coefficient
   look a b [] made once = inl tt
-  look a b (t ∷ f) made once = go (same_monomial t.0 b) refl (look a b f (All-tail (λ (t : List ℕ × Fraction). IsSolution a t.0 t.1) t f made) (λ i j d low within. once (suc i) (suc j) d (omega (arith, low)) (omega (arith, within))))
+  look a b (t ∷ f) made once = go (same_monomial t.0 b) refl (look a b f (All-tail (λ (t : List ℕ × Fraction). IsSolution s h a t.0 t.1) t f made) (λ i j d low within. once (suc i) (suc j) d (omega (arith, low)) (omega (arith, within))))
     where
-      first : same_monomial t.0 b ≡ true → (x : Fraction) × IsSolution a b x × IsSame Q (Q.add t.1 (coefficient Q f b)) x
+      first : same_monomial t.0 b ≡ true → (x : Fraction) × IsSolution s h a b x × IsSame Q (Q.add t.1 (coefficient Q f b)) x
       first e =
           let lacks : IsAbsent b f = absent_from b f (λ k d within. sym (same_monomial-right t.0 b (get_or f k d).0 e) ∙ once zero (suc k) d (omega arith) (omega (arith, within))) in (
             t.1,
-            subst (λ (c : Poly). IsCancelled (residue_ops s.p) (opposite (residue_ops s.p) c, z_coefficient s h a) t.1) (same-z_coefficient t.0 b e) (All-head (λ (t : List ℕ × Fraction). IsSolution a t.0 t.1) t f made),
+            subst (λ (c : Poly). IsCancelled (residue_ops s.p) (opposite (residue_ops s.p) c, z_coefficient s h a) t.1) (same-z_coefficient t.0 b e) (All-head (λ (t : List ℕ × Fraction). IsSolution s h a t.0 t.1) t f made),
             subst (λ (y : Fraction). IsSame Q (Q.add t.1 y) t.1) (sym (coefficient-absent Q b f lacks)) (q_laws.add_zero t.1),
           )
 
-      go : (e : Bool) → same_monomial t.0 b ≡ e → Looked a b f → IsAbsent b (t ∷ f) ⊎ ((x : Fraction) × IsSolution a b x × IsSame Q (cond (same_monomial t.0 b) (Q.add t.1 (coefficient Q f b)) (coefficient Q f b)) x)
+      go : (e : Bool) → same_monomial t.0 b ≡ e → Looked a b f → IsAbsent b (t ∷ f) ⊎ ((x : Fraction) × IsSolution s h a b x × IsSame Q (cond (same_monomial t.0 b) (Q.add t.1 (coefficient Q f b)) (coefficient Q f b)) x)
       go true e rest = inr (let (x, is, same) = first e in (x, is, subst (λ (c : Bool). IsSame Q (cond c (Q.add t.1 (coefficient Q f b)) (coefficient Q f b)) x) (sym e) same))
       go false e (inl absent) = inl (e, absent)
       go false e (inr (x, is, same)) = inr (x, is, subst (λ (c : Bool). IsSame Q (cond c (Q.add t.1 (coefficient Q f b)) (coefficient Q f b)) x) (sym e) same)
 
-  module _ (r : Relation) (solved : IsSolved r) where
+  module _ (r : Relation) (solved : IsSolved s h r) where
     abbrev leads : Fraction
     leads = over_1 s.p (z_coefficient s h r.lead)
 

@@ -1,15 +1,14 @@
 //! The Gröbner basis of the action's ideal, and its part without the group's variables.
 
-ghost use Rattle.std.specs.Prelude.{◌≡◌, ℕ, nat_lt, filter, false, All, IfOk, IfErr};
+ghost use Rattle.std.specs.Prelude.{◌≡◌, false, All, IfOk, IfErr};
 ghost use Rattle.rinv_algebra.specs.Residue.{residue_ops};
 ghost use Rattle.rinv_algebra.specs.Polynomial.{is_zero};
-ghost use Rattle.rinv_algebra.specs.Normal.{IsNormal};
-ghost use Rattle.rinv_groebner.specs.Elimination.{free_part};
+ghost use Rattle.rinv_algebra.specs.BlockEnds.{sizes_from, last_from};
+ghost use Rattle.rinv_algebra.specs.Order.{block_order};
+ghost use Rattle.rinv_groebner.specs.Elimination.{free_part, is_free};
 ghost use Rattle.rinv_ring.specs.Fault.{DegreesMeet};
-ghost use Rattle.rinv_mono.specs.declared.order.MonoOrder.{MonoOrder};
 ghost use Rattle.rinv_defs.specs.System.{group_count};
 ghost use Rattle.rinv_defs.specs.SystemForm.{IsSystem};
-ghost use Rattle.rinv_defs.specs.PairConditions.{action_order};
 ghost use Rattle.rinv_buch.specs.Causes.{StopsSo};
 ghost use Rattle.rinv_buch.specs.Spent.{IsKept, KeepsLimits, SpendsOn};
 ghost use Rattle.rinv_parts.specs.Points.{ArePolynomials};
@@ -70,12 +69,15 @@ pub fn eliminate(alloc: Global, system: &System, basis: &Basis<Gf>) -> Result<Ve
 }
 
 // Whether the monomial has none of the group's variables.
-fn is_free(system: &System, mono: &Mono) -> bool {
-    let mut degree = 0;
+fn is_free(system: &System, mono: &Mono) -> bool
+    ensures { result ≡ is_free (group_count system.now.system) mono.now }
+{
     'group: for k in 0..system.group.len() {
-        degree += mono.exponent_or_zero(k);
+        if mono.exponent_or_zero(k) > 0 {
+            return false;
+        }
     }
-    degree == 0
+    true
 }
 
 // Copies of the elements whose leading monomials have none of the group's variables.
@@ -85,9 +87,15 @@ fn free_elements(
     ring: &PolyRing<Gf>,
     order: &Blocks,
     polys: &[KPoly],
-) -> Result<Vec<KPoly>, NoMemory> {
+) -> Result<Vec<KPoly>, NoMemory>
+    requires suits { ring.now.vars ≡ last_from 0 order.now }
+    requires polys { ArePolynomials ring.now.coeffs ring.now.vars polys.now }
+    requires nonzero { All (λ h. is_zero (residue_ops ring.now.coeffs) h ≡ false) polys.now }
+    ensures { IfOk result (λ r. r.items ≡ free_part (residue_ops ring.now.coeffs) (block_order (sizes_from 0 order.now)) (group_count system.now.system) polys.now) }
+{
     let mut free = Vec::new(alloc);
-    'elements: for h in polys {
+    'elements: for k in 0..polys.len() {
+        let h = &polys[k];
         let (lead, _) = leading_term(ring, h, order);
         if is_free(system, lead) {
             let copy = ring.copy(alloc, h)?;

@@ -2,7 +2,7 @@
 
 ghost use Rattle.std.specs.Prelude.{◌≡◌, IfOk};
 ghost use Rattle.rinv_defs.specs.SystemForm.{IsSystem};
-ghost use Rattle.rinv_algebra.specs.BlockEnds.{sizes_from};
+ghost use Rattle.rinv_algebra.specs.BlockEnds.{sizes_from, last_from};
 ghost use Rattle.rinv_algebra.specs.Order.{block_order};
 ghost use Rattle.rinv_defs.specs.PairConditions.{action_order};
 ghost use Rattle.rinv_reduction.specs.Localised.{all_count};
@@ -27,7 +27,8 @@ pub(crate) fn action_ring(system: &System) -> PolyRing<Gf>
 /// The order in which first the group's variables decide, then Z, then the space's.
 pub(crate) fn action_order(alloc: Global, system: &System) -> Result<Blocks, NoMemory>
     requires { IsSystem system.now.system }
-    ensures { IfOk result (λ ends. block_order (sizes_from 0 ends) ≡ action_order system.now.system) }
+    ensures order { IfOk result (λ ends. block_order (sizes_from 0 ends) ≡ action_order system.now.system) }
+    ensures suits { IfOk result (λ ends. all_count system.now.system ≡ last_from 0 ends) }
 {
     let group = system.group.len();
     let space = system.space.len();

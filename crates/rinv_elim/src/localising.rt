@@ -1,15 +1,22 @@
 //! From polynomials in Z and the space's variables to relations over fractions.
 
-ghost use Rattle.std.specs.Prelude.{◌≡◌, ◌<◌, ℕ, nat_lt, length, All, IfOk, IfErr, IfSome, IsNone, IsTrue, IsFalse, OnOk};
+ghost use Rattle.std.specs.Prelude.{◌≡◌, ◌<◌, ℕ, [], nat_lt, length, map, take, get_or, false, All, IfOk, IfErr, IfSome, IfNone, IsTrue, IsFalse};
 ghost use Rattle.std.specs.List.{list_any};
 ghost use Rattle.rinv_algebra.specs.Residue.{residue_ops};
-ghost use Rattle.rinv_algebra.specs.Monomial.{same_monomial};
+ghost use Rattle.rinv_algebra.specs.Monomial.{same_monomial, total_degree};
+ghost use Rattle.rinv_algebra.specs.Polynomial.{is_zero, opposite};
 ghost use Rattle.rinv_algebra.specs.Normal.{IsNormal};
+ghost use Rattle.rinv_groebner.specs.Elimination.{is_free};
+ghost use Rattle.rinv_defs.specs.System.{group_count, space_count};
 ghost use Rattle.rinv_defs.specs.SystemForm.{IsSystem};
 ghost use Rattle.rinv_defs.specs.Extended.{Misses};
 ghost use Rattle.rinv_parts.specs.Points.{ArePolynomials};
-ghost use Rattle.rinv_reduction.specs.Localised.{all_count, IsCut};
-ghost use Rattle.rinv_elim.specs.Localising.{AreLocalised, IsMissed, kept_in_z};
+ghost use Rattle.rinv_frac.specs.Cancelling.{IsCancelled};
+ghost use Rattle.rinv_frac.specs.Fractions.{IsPart, IsStored};
+ghost use Rattle.rinv_buch.specs.Reducing.{kept_places};
+ghost use Rattle.rinv_tails.specs.Stored.{IsStoredRelation};
+ghost use Rattle.rinv_reduction.specs.Localised.{all_count, lead_in_z, z_coefficient, IsCut};
+ghost use Rattle.rinv_elim.specs.Localising.{AreLocalised, IsMissed, IsSolved};
 ghost use Rattle.rinv_elim.specs.Stopped.{StopsAt};
 
 use crate::blocks::{action_order, action_ring};
@@ -53,7 +60,12 @@ pub fn localise(alloc: Global, system: &System, cut: &[KPoly]) -> Result<Monic, 
 }
 
 // The exponents of Z in the leading monomials.
-fn leads_in_z(alloc: Global, system: &System, cut: &[KPoly]) -> Result<Vec<Mono>, NoMemory> {
+fn leads_in_z(alloc: Global, system: &System, cut: &[KPoly]) -> Result<Vec<Mono>, NoMemory>
+    requires system { IsSystem system.now.system }
+    requires normal { ArePolynomials system.now.system.p (all_count system.now.system) cut.now }
+    requires nonzero { All (λ h. is_zero (residue_ops system.now.system.p) h ≡ false) cut.now }
+    ensures { IfOk result (λ r. r.items ≡ map (lead_in_z system.now.system) cut.now) }
+{
     let ring = action_ring(system);
     let order = action_order(alloc, system)?;
     let mut leads = Vec::new(alloc);
@@ -66,7 +78,11 @@ fn leads_in_z(alloc: Global, system: &System, cut: &[KPoly]) -> Result<Vec<Mono>
 }
 
 // The place of the first monomial without Z.
-fn first_in_space(leads: &[Mono]) -> Option<usize> {
+fn first_in_space(leads: &[Mono]) -> Option<usize>
+    ensures some { IfSome result (λ k. (k < length leads.now) × (total_degree (get_or leads.now k []) ≡ 0)) }
+    ensures first { IfSome result (λ k. All (λ m. 0 < total_degree m) (take k leads.now)) }
+    ensures none { IfNone result (All (λ m. 0 < total_degree m) leads.now) }
+{
     'leads: for place in 0..leads.len() {
         if leads[place].degree() == 0 {
             return Some(place);
@@ -80,7 +96,11 @@ fn kept_in_z(
     alloc: Global,
     space_ring: &PolyRing<Gf>,
     leads: &[Mono],
-) -> Result<Vec<usize>, NoMemory> {
+) -> Result<Vec<usize>, NoMemory>
+    requires { All (λ m. length m ≡ space_ring.now.vars) leads.now }
+    ensures places { IfOk result (λ r. r.items ≡ kept_places leads.now) }
+    ensures inside { IfOk result (λ r. All (λ k. k < length leads.now) r.items) }
+{
     let mut monomials = Vec::with_capacity(alloc, leads.len())?;
     'leads: for lead in leads {
         let copy = lead.copy(alloc)?;
@@ -100,7 +120,17 @@ fn relation_of(
     field: &FracRing,
     h: &KPoly,
     lead: &Mono,
-) -> Result<FracRelation, NoMemory> {
+) -> Result<FracRelation, NoMemory>
+    requires system { IsSystem system.now.system }
+    requires field { field.now.base.coeffs ≡ system.now.system.p }
+    requires vars { field.now.base.vars ≡ space_count system.now.system }
+    requires normal { IsNormal (residue_ops system.now.system.p) (λ c. nat_lt c system.now.system.p) (all_count system.now.system) h.now }
+    requires free { All (λ t. IsTrue (is_free (group_count system.now.system) t.0)) h.now }
+    requires lead { lead.now ≡ lead_in_z system.now.system h.now }
+    requires divisor { IsFalse (is_zero (residue_ops system.now.system.p) (z_coefficient system.now.system h.now lead.now)) }
+    ensures solved { IfOk result (IsSolved system.now.system h.now) }
+    ensures stored { IfOk result (IsStoredRelation system.now.system.p (space_count system.now.system)) }
+{
     let divisor = z_coefficient(alloc, system, field.base(), h, lead)?;
     let mut tail = Vec::new(alloc);
     'terms: for (mono, _) in h.terms() {
@@ -118,8 +148,12 @@ fn relation_of(
 }
 
 // Whether a term has the monomial.
-fn has_monomial(terms: &[(Mono, Frac)], mono: &Mono) -> bool {
-    'terms: for (other, _) in terms {
+fn has_monomial(terms: &[(Mono, Frac)], mono: &Mono) -> bool
+    requires { All (λ t. length t.0 ≡ length mono.now) terms.now }
+    ensures { result ≡ list_any (λ t. same_monomial t.0 mono.now) terms.now }
+{
+    'terms: for k in 0..terms.len() {
+        let (other, _) = &terms[k];
         if is_same(other, mono) {
             return true;
         }
@@ -128,7 +162,13 @@ fn has_monomial(terms: &[(Mono, Frac)], mono: &Mono) -> bool {
 }
 
 // -c/d, cancelled.
-fn solved(alloc: Global, field: &FracRing, c: &KPoly, d: &KPoly) -> Result<Frac, NoMemory> {
+fn solved(alloc: Global, field: &FracRing, c: &KPoly, d: &KPoly) -> Result<Frac, NoMemory>
+    requires num { IsPart field.now.base.coeffs field.now.base.vars c.now }
+    requires den { IsPart field.now.base.coeffs field.now.base.vars d.now }
+    requires nonzero { IsFalse (is_zero (residue_ops field.now.base.coeffs) d.now) }
+    ensures stored { IfOk result (IsStored field.now.base.coeffs field.now.base.vars) }
+    ensures solved { IfOk result (IsCancelled (residue_ops field.now.base.coeffs) (opposite (residue_ops field.now.base.coeffs) c.now, d.now)) }
+{
     let ring = field.base();
     let zero = ring.zero(alloc)?;
     // Differences of numbers modulo a prime are refused for memory alone.
