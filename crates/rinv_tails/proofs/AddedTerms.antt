@@ -53,7 +53,7 @@ module _ (p v : ℕ) where
         subst (λ (t : List ℕ × Fraction). f ≡ take k f ++ t ∷ drop (k + 1) f) (sym term-is) (subst (λ (i : ℕ). f ≡ take k f ++ r ∷ drop i f) j (at-place f k r is.inside here))
 
     pub term-stands : Contains f (m, r.1)
-    term-stands = subst (Contains f) (sym term-is) (k, is.inside, here)
+    term-stands = subst (Contains f) (sym term-is) (k, is.inside, sym here)
 
     -- degrees are met as a fraction is added there
     pub there-meets : (c : Fraction) (fault : RingFault) → DegreesMeet (fractions_meet (residue_ops p) adds r.1 c) fault → DegreesMeet (AddingMeets p v m c f) fault

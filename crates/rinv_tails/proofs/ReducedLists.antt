@@ -1,8 +1,9 @@
 -- Relations whose tails are reduced in turn.
 --   lists-start, lists-more, lists-meet      the first of them
-use Rattle.std.proofs.Common.{◌≡◌, ◌⊎◌, ℕ, suc, ◌<◌, ◌≤◌, ◌+◌, List, [], ◌∷◌, ◌++◌, length, length-append, get_or, take, take_all, take-append-le, refl, sym, ◌∙◌, ap, subst, inl, inr, arith, All, IsTrue}
+use Rattle.std.proofs.Common.{◌≡◌, ◌⊎◌, ℕ, zero, suc, ◌<◌, ◌≤◌, ◌+◌, List, [], ◌∷◌, ◌++◌, length, length-append, get_or, take, take_all, refl, sym, ◌∙◌, ap, subst, inl, inr, arith, All, IsTrue}
 use Rattle.std.specs.Prelude.{IsFalse, Contains}
 use Rattle.std.proofs.lemmas.Bool.{cases_order}
+use Rattle.std.proofs.lemmas.List.{take-append-le}
 use Rattle.std.proofs.lemmas.List.Elements.{All-nil, All-push, All-contains}
 use Rattle.std.specs.declared.cmp.Ordering.TheVariants.{Less}
 use Rattle.rinv_algebra.specs.Order.{grevlex}
@@ -39,7 +40,7 @@ module _ (p v : ℕ) where
 
   at-before : (qs : List Relation) (q : Relation) (k : ℕ) → k < length qs → get_or (qs ++ q ∷ []) k none ≡ get_or qs k none
   at-before [] q k low = absurd (omega arith)
-  at-before (x ∷ qs) q 0 low = refl
+  at-before (x ∷ qs) q zero low = refl
   at-before (x ∷ qs) q (suc k) low = at-before qs q k (omega (arith, low))
 
   each : (P : ℕ → List Relation → Relation → Type 0) (qs : List Relation) (q : Relation) → ((k : ℕ) → k < length qs → P k (take k qs) (get_or qs k none)) → P (length qs) qs q → (k : ℕ) → k < length (qs ++ q ∷ []) → P k (take k (qs ++ q ∷ [])) (get_or (qs ++ q ∷ []) k none)

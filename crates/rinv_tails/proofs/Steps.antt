@@ -94,7 +94,7 @@ module _ (p v : ℕ) where
       under : AreUnder p v multiplier t.0 by.tail
       under k d within = factor-below t.0 by.lead (get_or by.tail k d).0 (front-term.vars ∙ sym good.vars) divided (good.below k d within)
 
-      next_term : IsNextTerm p v rs (done ++ (t ∷ left)) t place
+      abbrev next_term : IsNextTerm p v rs (done ++ (t ∷ left)) t place
       next_term = record {
         before = done;
         after = left;

@@ -3,7 +3,7 @@
 --   at-place, take-at              a list about one of its places
 --   tail-nil, tail-cons, ..        tails from the front, and of two lists
 --   tail-without, tail-other       a term taken away, or with another fraction
-use Rattle.std.proofs.Common.{◌≡◌, ℕ, suc, ◌<◌, ◌≤◌, ◌+◌, List, [], ◌∷◌, ◌++◌, length, get_or, take, drop, take-append-drop, append_assoc, refl, sym, ◌∙◌, ap, subst, arith, All, AllPairs}
+use Rattle.std.proofs.Common.{◌≡◌, ℕ, zero, suc, ◌<◌, ◌≤◌, ◌+◌, List, [], ◌∷◌, ◌++◌, length, get_or, take, drop, take-append-drop, append_assoc, refl, sym, ◌∙◌, ap, subst, arith, All, AllPairs}
 use Rattle.std.proofs.lemmas.List.Elements.{All-nil, All-head, All-tail, All-cons, All-append}
 use Rattle.std.specs.declared.cmp.Ordering.TheVariants.{Less}
 use Rattle.rinv_algebra.specs.Order.{grevlex}
@@ -25,7 +25,7 @@ all-right P (x ∷ xs) ys h = all-right P xs ys (All-tail P x (xs ++ ys) h)
 
 pub at-place : {X : Type 0} (xs : List X) (k : ℕ) (x : X) → k < length xs → x ≡ get_or xs k x → xs ≡ take k xs ++ x ∷ drop (suc k) xs
 at-place [] k x low e = absurd (omega arith)
-at-place (y ∷ xs) 0 x low e = ap (λ z. z ∷ xs) (sym e)
+at-place (y ∷ xs) zero x low e = ap (λ z. z ∷ xs) (sym e)
 at-place (y ∷ xs) (suc k) x low e = ap (λ zs. y ∷ zs) (at-place xs k x (omega (arith, low)) e)
 
 pub take-at : {X : Type 0} (xs : List X) (k : ℕ) (x : X) → k < length xs → x ≡ get_or xs k x → take (k + 1) xs ≡ take k xs ++ x ∷ []
@@ -33,7 +33,7 @@ take-at {X} xs k x low e = subst (λ (j : ℕ). take j xs ≡ take k xs ++ x ∷
   where
     go : (xs : List X) (k : ℕ) → k < length xs → x ≡ get_or xs k x → take (suc k) xs ≡ take k xs ++ x ∷ []
     go [] k low e = absurd (omega arith)
-    go (y ∷ xs) 0 low e = ap (λ z. z ∷ []) (sym e)
+    go (y ∷ xs) zero low e = ap (λ z. z ∷ []) (sym e)
     go (y ∷ xs) (suc k) low e = ap (λ zs. y ∷ zs) (go xs k (omega (arith, low)) e)
 
 -- all terms are below the monomial
