@@ -18,8 +18,8 @@ pub less-from_greater : (a b : List ℕ) → grevlex a b ≡ Greater → grevlex
 less-from_greater a b e = grevlex_laws.total.antisymm b a ∙ ap ordering_reverse e
 
 module _ (m : List ℕ) (f : FractionPoly) (k : ℕ) where
-  pub above-more : (t : List ℕ × Fraction) → k < length f → t ≡ get_or f k t → All (λ u. grevlex m u.0 ≡ Less) (take k f) → grevlex t.0 m ≡ Greater → All (λ u. grevlex m u.0 ≡ Less) (take (k + 1) f)
-  above-more t low here above e = All-more (λ u. grevlex m u.0 ≡ Less) f k t low above (subst (λ (u : List ℕ × Fraction). grevlex m u.0 ≡ Less) here (less-from_greater t.0 m e))
+  pub above-more : (t : List ℕ × Fraction) → k < length f → t ≡ get_or f k t → All (λ u. grevlex m u.0 ≡ Less) (take k f) → grevlex (get_or f k t).0 m ≡ Greater → All (λ u. grevlex m u.0 ≡ Less) (take (k + 1) f)
+  above-more t low here above e = All-more (λ u. grevlex m u.0 ≡ Less) f k t low above (less-from_greater (get_or f k t).0 m e)
 
   -- whatever stands for what is missing
   first : (t : List ℕ × Fraction) → k < length f → t ≡ get_or f k t → (d : List ℕ × Fraction) → get_or f k d ≡ t
@@ -30,19 +30,22 @@ module _ (m : List ℕ) (f : FractionPoly) (k : ℕ) where
       same (x ∷ f) zero low = refl
       same (x ∷ f) (suc k) low = same f k (omega (arith, low))
 
-  pub is-there : (t : List ℕ × Fraction) → k < length f → t ≡ get_or f k t → length t.0 ≡ length m → grevlex t.0 m ≡ Equal → IsThere m f k
+  pub is-there : (t : List ℕ × Fraction) → k < length f → t ≡ get_or f k t → length (get_or f k t).0 ≡ length m → grevlex (get_or f k t).0 m ≡ Equal → IsThere m f k
   is-there t low here many ties = record {
     inside = low;
-    same = λ d. subst (λ (u : List ℕ × Fraction). u.0 ≡ m) (sym (first t low here d)) (grevlex_ties t.0 m many ties);
+    same = λ d. subst (λ (u : List ℕ × Fraction). u.0 ≡ m) (sym here ∙ sym (first t low here d)) (grevlex_ties (get_or f k t).0 m many ties);
   }
 
-  pub gap-before : (t : List ℕ × Fraction) → AllPairs (λ s u. grevlex u.0 s.0 ≡ Less) f → k < length f → t ≡ get_or f k t → All (λ u. grevlex m u.0 ≡ Less) (take k f) → grevlex t.0 m ≡ Less → IsGap m f k
-  gap-before t down low here above less = record {
+  pub gap-before : (t : List ℕ × Fraction) → AllPairs (λ s u. grevlex u.0 s.0 ≡ Less) f → k < length f → t ≡ get_or f k t → All (λ u. grevlex m u.0 ≡ Less) (take k f) → grevlex (get_or f k t).0 m ≡ Less → IsGap m f k
+  gap-before t down low here above smaller = record {
     inside = omega (arith, low);
     above = above;
     below = λ j d within. subst (λ (u : List ℕ × Fraction). grevlex u.0 m ≡ Less) (sym (get_or-drop k f j d)) (at j d (let l = length-drop k f in omega (arith, within, l)));
   }
     where
+      less : grevlex t.0 m ≡ Less
+      less = subst (λ (u : List ℕ × Fraction). grevlex u.0 m ≡ Less) (sym here) smaller
+
       at : (j : ℕ) (d : List ℕ × Fraction) → k + j < length f → grevlex (get_or f (k + j) d).0 m ≡ Less
       at zero d within = let e : k + 0 ≡ k = omega arith in subst (λ (i : ℕ). grevlex (get_or f i d).0 m ≡ Less) (sym e) (subst (λ (u : List ℕ × Fraction). grevlex u.0 m ≡ Less) (sym (first t low here d)) less)
       at (suc j) d within = grevlex_laws.total.trans (get_or f (k + suc j) d).0 t.0 m

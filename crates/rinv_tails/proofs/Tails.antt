@@ -29,7 +29,7 @@ at-place (y ∷ xs) zero x low e = ap (λ z. z ∷ xs) (sym e)
 at-place (y ∷ xs) (suc k) x low e = ap (λ zs. y ∷ zs) (at-place xs k x (omega (arith, low)) e)
 
 pub take-at : {X : Type 0} (xs : List X) (k : ℕ) (x : X) → k < length xs → x ≡ get_or xs k x → take (k + 1) xs ≡ take k xs ++ x ∷ []
-take-at {X} xs k x low e = subst (λ (j : ℕ). take j xs ≡ take k xs ++ x ∷ []) (omega arith) (go xs k low e)
+take-at {X} xs k x low e = let more : suc k ≡ k + 1 = omega arith in subst (λ (j : ℕ). take j xs ≡ take k xs ++ x ∷ []) more (go xs k low e)
   where
     go : (xs : List X) (k : ℕ) → k < length xs → x ≡ get_or xs k x → take (suc k) xs ≡ take k xs ++ x ∷ []
     go [] k low e = absurd (omega arith)
