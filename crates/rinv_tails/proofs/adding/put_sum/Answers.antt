@@ -11,5 +11,4 @@ returns-then-is_zero c =
 pub returns-else-is_zero : goal.returns-else-is_zero
 returns-else-is_zero c =
     let field = c.args.field.now.base in
-    let t = (c.args.mono, c.args.sum) in
-    put-replaced field.coeffs field.vars c.args.tail.now.items (slice_set c.args.tail.now.items c.args.place t) c.args.place t c.requires.sum (sym c.is_zero.ensures ∙ c.if-is_zero.false) c.requires.there.inside refl
+    put-replaced field.coeffs field.vars c.args.tail.now.items (slice_set c.args.tail.now.items c.args.place (c.args.mono, c.args.sum)) c.args.place (c.args.mono, c.args.sum) c.requires.sum (sym c.is_zero.ensures ∙ c.if-is_zero.false) c.requires.there.inside refl
