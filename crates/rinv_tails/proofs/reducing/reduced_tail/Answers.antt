@@ -1,6 +1,4 @@
-use Rattle.std.proofs.Common.{◌≡◌, ◌∙◌, sym, subst, arith}
-use Rattle.std.proofs.lemmas.Result.{err_from_is_err_and}
-use Rattle.rinv_tails.proofs.Steps.{taken-first, term-falls, reducing-start, settled, replaced, step-meets, front-term, front-left, front-below, reducing-end, whole-steps, whole-tail, whole-below}
+use Rattle.rinv_tails.proofs.Steps.{reducing-start}
 use Rattle.rinv_tails.proofs.reducing.reduced_tail.Goals as goal
 
 pub terms-init : goal.terms-init
