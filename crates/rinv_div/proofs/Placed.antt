@@ -1,8 +1,9 @@
 -- Terms are put where they belong in lists that ascend, from the greatest down.
-use Rattle.std.proofs.Common.{◌≡◌, ℕ, zero, suc, ◌<◌, ◌≤◌, Bool, false, List, [], ◌∷◌, ◌++◌, length, get_or, set, take, drop, reverse, All, refl, sym, ap, ◌∙◌, arith, subst, inl, inr, append_assoc, append-nil}
+use Rattle.std.proofs.Common.{◌≡◌, ℕ, zero, suc, ◌<◌, ◌≤◌, Bool, true, false, List, [], ◌∷◌, ◌++◌, length, get_or, set, take, drop, reverse, All, refl, sym, ap, ◌∙◌, arith, subst, inl, inr, append_assoc, append-nil}
+use Rattle.std.specs.List.{remove, insert}
 use Rattle.std.proofs.lemmas.Bool.{cases_Bool}
 use Rattle.std.proofs.lemmas.List.{take-append-drop, reverse-append}
-use Rattle.std.proofs.lemmas.List.Elements.{All-nil, All-head, All-tail, All-cons, All-weaker}
+use Rattle.std.proofs.lemmas.List.Elements.{All-nil, All-head, All-tail, All-weaker}
 use Rattle.std.specs.declared.cmp.Ordering.{Ordering}
 use Rattle.std.specs.declared.cmp.Ordering.TheVariants.{Less}
 use Rattle.rinv_algebra.specs.Ring.{RingOps, RingLaws, IsSame}
@@ -12,7 +13,7 @@ use Rattle.rinv_algebra.specs.Polynomial.{Term, Polynomial, poly_ops}
 use Rattle.rinv_poly.specs.Terms.{with_term}
 use Rattle.rinv_poly.proofs.Gather.{same-then, same-equal}
 use Rattle.rinv_poly.proofs.Moving.{reverse-last}
-use Rattle.rinv_div.specs.Arranged.{AreChanges, AreChanged, IsChanged, IsPlaced, put_over, put_between, IsPlacedLast, term_between}
+use Rattle.rinv_div.specs.Arranged.{AreChanges, AreChanged, IsPlaced, put_over, put_between, IsPlacedLast, term_between}
 use Rattle.rinv_div.proofs.Arranging.{Below, Above, above-first, above-tail, below-first, descend-above, arranged-nil, arranged-append, later-coefficient}
 use Rattle.rinv_div.proofs.Replaced.{IsReplacing, replacing-kept, replacing-put, replacing-replaced}
 use Rattle.rinv_div.proofs.MovedLast.{All-reverse, Replaces}
@@ -41,8 +42,18 @@ module _ {E : Type 0} (o : RingOps E) where
     | inr off ↦ rw off (reverse-append (take i f) (u ∷ drop j f) ∙ ap (λ (r : Polynomial E). r ++ reverse (take i f)) (reverse-append (u ∷ []) (drop j f)))
   ]
 
+  -- what the edits of a list make
   pub set-between : (f : Polynomial E) (k : ℕ) (u : Term E) → k < length f → o.same u.1 o.zero ≡ false → set f k u ≡ term_between o f k (suc k) u
   set-between f k u b off = rw off (set-split f k u b)
+
+  pub remove-between : (f : Polynomial E) (k : ℕ) (u : Term E) → o.same u.1 o.zero ≡ true → remove f k ≡ term_between o f k (suc k) u
+  remove-between f k u here = rw here refl
+
+  pub insert-between : (f : Polynomial E) (k : ℕ) (u : Term E) → o.same u.1 o.zero ≡ false → insert f k u ≡ term_between o f k k u
+  insert-between f k u off = rw off refl
+
+  pub same-between : (f : Polynomial E) (k : ℕ) (u : Term E) → o.same u.1 o.zero ≡ true → f ≡ term_between o f k k u
+  same-between f k u here = rw here (sym (take-append-drop k f))
 
 module _ {E : Type 0} (o : RingOps E) (l : RingLaws o) (is_element : E → Bool) (v : ℕ) (cmp : List ℕ → List ℕ → Ordering) (laws : MonoOrderLaws cmp) where
   -- changes below a term do not depend on it
