@@ -14,7 +14,7 @@ use Rattle.rinv_poly.specs.Terms.{with_term}
 use Rattle.rinv_poly.proofs.Gather.{same-then, same-equal}
 use Rattle.rinv_poly.proofs.Moving.{reverse-last}
 use Rattle.rinv_div.specs.Arranged.{AreChanges, AreChanged, IsPlaced, put_over, put_between, IsPlacedLast, term_between}
-use Rattle.rinv_div.proofs.Arranging.{Below, Above, above-first, above-tail, below-first, descend-above, arranged-nil, arranged-append, later-coefficient}
+use Rattle.rinv_div.proofs.Arranging.{Below, Above, above-first, below-first, descend-above, arranged-nil, arranged-append, later-coefficient}
 use Rattle.rinv_div.proofs.Replaced.{IsReplacing, replacing-kept, replacing-put, replacing-replaced}
 use Rattle.rinv_div.proofs.MovedLast.{All-reverse, Replaces}
 
