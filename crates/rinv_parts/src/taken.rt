@@ -13,7 +13,7 @@ ghost use Rattle.rinv_parts.specs.Substitutions.{IsAgreement, IsLess, IsMade, Is
 use crate::law_points::LawPoints;
 use rinv_poly::{KPoly, PolyRing};
 use rinv_ring::{Gf, NoMemory, Ring, RingFault};
-use rinv_sub::substitute;
+use rinv_sub::substitute_over_field;
 use std::alloc::Global;
 
 // The polynomial at the point.
@@ -29,7 +29,7 @@ fn value(
     requires point { IsPoint ring.now.coeffs ring.now.vars from.now.vars point.now }
     ensures { (x : List Poly) → AreStored ring.now.coeffs ring.now.vars x point.now → MatchResult result (IsValue ring.now.coeffs ring.now.vars x f.now) (DegreesMeet (TakenMeets ring.now.coeffs ring.now.vars x f.now)) }
 {
-    substitute(from, alloc, f, ring, point)
+    substitute_over_field(from, alloc, f, ring, point)
 }
 
 // The difference of two polynomials.
