@@ -1,4 +1,4 @@
-//! Times of products and sums of polynomials over GF(32003), and of reading texts, where the word `measure` asks for them.
+//! Times of products and sums of polynomials and fractions over GF(32003), and of reading texts, where the word `measure` asks for them.
 #![tactic(auto)]
 
 ghost use Rattle.std.specs.Prelude.{◌≡◌, ◌<◌, length, All, IfOk, nat_lt};
@@ -6,6 +6,7 @@ ghost use Rattle.rinv_algebra.specs.Residue.{residue_ops};
 ghost use Rattle.rinv_algebra.specs.Normal.{IsNormal};
 ghost use Rattle.rinv_poly.specs.Terms.{IsTerm};
 
+mod fractions;
 mod texts;
 
 use rinv_mono::Mono;
@@ -33,6 +34,7 @@ fn main(rt: HostRuntime) -> anyhow::Result<()> {
         product(&rt, rt.alloc(), field, 16)?;
         sum(&rt, rt.alloc(), field, 10000)?;
         sum(&rt, rt.alloc(), field, 100000)?;
+        fractions::measure(&rt, rt.alloc(), field, 100)?;
     }
     texts::measure(&rt, rt.alloc())
 }
