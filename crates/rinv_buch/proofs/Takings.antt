@@ -78,4 +78,4 @@ module _ {R E S : Type 0} (o : RingOps E) (is_element : E → Bool) (v : ℕ) (c
   }
 
   pub entries-fewer : length (journal_of run.journal.items) < pairs_among (length run.elements.polys.items)
-  entries-fewer = omega (arith, has_room i j (pairs_of (journal_of run.journal.items)) before after is_run.taken takes, length-map (journal_of run.journal.items) (λ (e : Entry). (e.first, e.second)), ap pairs_among number)
+  entries-fewer = omega (arith, has_room i j (pairs_of (journal_of run.journal.items)) before after is_run.taken takes, length-map {B = ℕ × ℕ} (journal_of run.journal.items) (λ (e : Entry). (e.first, e.second)), ap pairs_among number)
