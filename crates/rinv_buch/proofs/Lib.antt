@@ -7,6 +7,8 @@ pub mod SpentTogether
 pub mod RunsOfPairs
 pub mod HaltFacts
 pub mod RunsEntered
+pub mod Thirds
+pub mod Takings
 pub mod PreparedFacts
 pub mod PairsLeft
 pub mod PairsEntered

@@ -11,9 +11,11 @@ use Rattle.rinv_algebra.specs.Leading.{leading_monomial}
 use Rattle.rinv_groebner.specs.Count.{count, is_undivided}
 use Rattle.rinv_groebner.proofs.LeadingMonomials.{leading_monomial-leads}
 use Rattle.rinv_groebner.proofs.Falls.{undivided-less}
-use Rattle.rinv_pairs.specs.Pairs.{Pairs, Takes, pairs_among}
+use Rattle.rinv_groebner.specs.Journal.{Entry}
+use Rattle.rinv_pairs.specs.Pairs.{Pairs, pairs_among}
 use Rattle.rinv_buch.specs.declared.elements.Elements.{Elements}
 use Rattle.rinv_buch.specs.declared.run.Run.{Run}
+use Rattle.rinv_buch.specs.Kinds.{journal_of}
 use Rattle.rinv_buch.specs.Elements.{ArePrepared}
 use Rattle.rinv_buch.specs.Runs.{Grows, Turns}
 use Rattle.rinv_buch.proofs.PreparedFacts.{prepared-nonzero, prepared-vars, divided-reducible, has-low}
@@ -26,18 +28,14 @@ among-more n (suc k) = let e : n + suc k ≡ suc (n + k) = omega arith in rw e (
 among-up : (m n : ℕ) → m ≤ n → pairs_among m ≤ pairs_among n
 among-up m n low = let e : m + (n - m) ≡ n = omega (arith, low) in subst (λ (k : ℕ). pairs_among m ≤ pairs_among k) e (among-more m (n - m))
 
--- the run, with this queue
-abbrev taken_run : {R E : Type 0} → Run R E → Pairs → Run R E
-taken_run run queue = record { elements = run.elements; queue = queue; journal = run.journal }
-
 module _ {E : Type 0} (o : RingOps E) (v : ℕ) (cmp : List ℕ → List ℕ → Ordering) where
   -- the monomials within the limit that no leading monomial divides
   abbrev undivided : List (Polynomial E) → ℕ
   undivided list = count v max_degree (is_undivided (map (leading_monomial o cmp) list))
 
-  -- the pairs of the elements that are there and of those that may be added, without those that were taken
-  abbrev pub pairs_left : List (Polynomial E) → List (ℕ × ℕ) → ℕ
-  pairs_left list taken = pairs_among (length list + undivided list) - length taken
+  -- the pairs of the elements that are there and of those that may be added, without those that have an entry
+  abbrev pub pairs_left : List (Polynomial E) → List Entry → ℕ
+  pairs_left list journal = pairs_among (length list + undivided list) - length journal
 
   module _ {R : Type 0} (l : RingLaws o) (is_element : E → Bool) (laws : MonoOrderLaws cmp) where
     -- an element more leaves fewer of them
@@ -61,24 +59,30 @@ module _ {E : Type 0} (o : RingOps E) (v : ℕ) (cmp : List ℕ → List ℕ →
             ap (λ (xs : List (Polynomial E)). get_or xs (length list) []) grows.whole ∙ ap (λ (n : ℕ). get_or (list ++ grows.rest ∷ []) n []) (sym e) ∙ get_or-append-add list (grows.rest ∷ []) 0 []
 
     -- a turn leaves fewer
-    pub turn-less : (i j count : ℕ) (before : Run R E) (queue : Pairs) (after : Run R E) → ArePrepared o is_element v cmp before.elements → ArePrepared o is_element v cmp after.elements
-        → before.queue.elements ≡ length before.elements.polys.items → Takes i j before.queue queue → Turns o cmp count (taken_run before queue) after
-        → pairs_left after.elements.polys.items after.queue.taken < pairs_left before.elements.polys.items before.queue.taken
-    turn-less i j count before queue after prepared prepared' number takes turns = go turns.polys
+    pub turn-less : {S : Type 0} (count : ℕ) (before : Run R E) (queue : Pairs S) (after : Run R E) (next : Pairs S) → ArePrepared o is_element v cmp before.elements → ArePrepared o is_element v cmp after.elements
+        → length (journal_of before.journal.items) < pairs_among (length before.elements.polys.items) → Turns o cmp count before queue after next
+        → pairs_left after.elements.polys.items (journal_of after.journal.items) < pairs_left before.elements.polys.items (journal_of before.journal.items)
+    turn-less count before queue after next prepared prepared' room turns = go turns.polys
       where
         list : List (Polynomial E)
         list = before.elements.polys.items
 
-        more : length after.queue.taken ≡ length before.queue.taken + 1
-        more = ap length turns.taken ∙ ap length takes.taken ∙ length-append before.queue.taken ((i, j) ∷ [])
+        old : List Entry
+        old = journal_of before.journal.items
 
-        room : length before.queue.taken < pairs_among (length list)
-        room = subst (λ (n : ℕ). length before.queue.taken < pairs_among n) number takes.left
+        now : List Entry
+        now = journal_of after.journal.items
 
-        go : (after.elements.polys.items ≡ list) ⊎ Grows o cmp list after.elements.polys.items → pairs_left after.elements.polys.items after.queue.taken < pairs_left list before.queue.taken
-        go (inl e) = subst (λ (ps : List (Polynomial E)). pairs_left ps after.queue.taken < pairs_left list before.queue.taken) (sym e) (omega (arith, more, room, among-more (length list) (undivided list)))
+        here : length old < pairs_among (length list)
+        here = room
+
+        more : length now ≡ length old + 1
+        more = ap length turns.journal ∙ length-append old (turns.entry ∷ [])
+
+        go : (after.elements.polys.items ≡ list) ⊎ Grows o cmp list after.elements.polys.items → pairs_left after.elements.polys.items now < pairs_left list old
+        go (inl e) = subst (λ (ps : List (Polynomial E)). pairs_left ps now < pairs_left list old) (sym e) (omega (arith, more, here, among-more (length list) (undivided list)))
         go (inr grows) =
             let fewer = grown-less list after.elements (prepared-nonzero o is_element v cmp before.elements prepared) prepared' grows in
             let longer : length after.elements.polys.items ≡ length list + 1 = ap length grows.whole ∙ length-append list (grows.rest ∷ []) in
             let up = among-up (length after.elements.polys.items + undivided after.elements.polys.items) (length list + undivided list) (omega (arith, longer, fewer)) in
-            omega (arith, more, room, up, among-more (length list) (undivided list))
+            omega (arith, more, here, up, among-more (length list) (undivided list))

@@ -7,7 +7,8 @@ use Rattle.rinv_algebra.specs.Polynomial.{Polynomial, has_monomial, is_zero, ter
 use Rattle.rinv_algebra.specs.Leading.{multiplier}
 use Rattle.rinv_groebner.specs.Division.{is_reducible}
 use Rattle.rinv_groebner.specs.Settled.{lead_at, lcm_at, AreCoprime}
-use Rattle.rinv_groebner.specs.Journal.{Entry, IsOpen, Journal, IsAtWork}
+use Rattle.rinv_groebner.specs.Journal.{Entry, IsOpen, Journal}
+use Rattle.rinv_groebner.specs.Sparing.{IsSparing, IsAtWorkOn}
 use Rattle.rinv_ring.specs.Operation.{RingOp}
 use Rattle.rinv_poly.specs.Combined.{TermMeets, DifferenceMeets}
 use Rattle.rinv_div.specs.declared.budget.Budget.{Budget}
@@ -65,11 +66,13 @@ module _ {E : Type 0} (o : RingOps E) (is_element : E → Bool) (too_high : Ring
   IsCause b journal list working (Steps reducible) = (b.endless ≡ false) × (b.pairs_spent < b.pairs) × (b.steps_spent ≡ b.steps) × IsTrue (has_monomial o working reducible) × IsTrue (is_reducible o cmp list reducible)
   IsCause b journal list working (Degree left right) = DegreeCause b journal list working left right
 
-  -- the journal is one on the polynomials given, what is at work comes of it by these steps, both are spent, and the cause holds
+  -- the journal is one on the polynomials given, what is at work comes of it by these steps, both are spent, and the cause holds; and no
+  -- S-polynomial was divided where a third element settles the pair
   pub record Halts (given : List (Polynomial E)) (before after : Budget) (h : Halted E) : Type 0 where
     pub journal : Journal o cmp given h.journal h.polys
     pub taken : ℕ
-    pub at_work : IsAtWork o cmp h.journal h.polys taken h.working
+    pub at_work : IsAtWorkOn o cmp h.journal h.polys h.origin taken h.working
+    pub sparing : IsSparing o cmp given h.journal
     pub spent : SpendsOn h.journal taken before after
     pub cause : IsCause after h.journal h.polys h.working h.why
 

@@ -6,10 +6,11 @@ ghost use Rattle.rinv_algebra.specs.Normal.{IsNormal};
 ghost use Rattle.rinv_groebner.specs.Journal.{Journal, IsComplete};
 ghost use Rattle.rinv_groebner.specs.Basis.{IsGroebnerBasis, AreNonzero};
 ghost use Rattle.rinv_div.specs.declared.budget.Budget.{Budget};
+ghost use Rattle.rinv_groebner.specs.Sparing.{IsSparing};
 ghost use Rattle.rinv_buch.specs.Causes.{Halts, StopsSo};
 ghost use Rattle.rinv_buch.specs.Halting.{HaltsAfter};
 ghost use Rattle.rinv_buch.specs.Kinds.{journal_of};
-ghost use Rattle.rinv_buch.specs.Runs.{IsRun, IsTaking, Turns, Settles, SettlesWith, steps_with};
+ghost use Rattle.rinv_buch.specs.Runs.{IsRun, IsTaking, Turns, Settles, SettlesBy, SettlesWith, steps_with};
 ghost use Rattle.rinv_buch.specs.Spent.{IsKept, KeepsLimits, SpendsBoth, SpendsOn};
 
 use crate::elements::Elements;
@@ -19,8 +20,8 @@ use crate::run::{Run, begun, enter, place};
 use crate::settling::{Outcome, settle};
 use crate::spending::{count_pair, is_out_of_pairs};
 use rinv_div::Budget;
-use rinv_mono::MonoOrder;
-use rinv_pairs::Pair;
+use rinv_mono::{Grevlex, MonoOrder};
+use rinv_pairs::{Pair, PairQueue};
 use rinv_poly::{Poly, PolyRing};
 use rinv_ring::{Field, Ring};
 use std::alloc::Global;
@@ -38,6 +39,34 @@ pub fn basis<F: Field, O: MonoOrder>(
     requires suits { O.fits order.now ring.now.vars }
     requires within { IsKept budget.old }
     ensures journal { IfOk result (λ b. Journal (F.ops ring.now.coeffs) (O.cmp order.now) given.now b.journal b.polys) }
+    ensures sparing { IfOk result (λ b. IsSparing (F.ops ring.now.coeffs) (O.cmp order.now) given.now b.journal) }
+    ensures complete { IfOk result (λ b. IsComplete (F.ops ring.now.coeffs) (O.cmp order.now) b.journal b.polys) }
+    ensures spent { IfOk result (λ b. SpendsOn b.journal 0 budget.old budget.new) }
+    ensures polys { IfOk result (λ b. All (IsNormal (F.ops ring.now.coeffs) (F.is_element ring.now.coeffs) ring.now.vars) b.polys) }
+    ensures nonzero { IfOk result (λ b. AreNonzero (F.ops ring.now.coeffs) b.polys) }
+    ensures groebner { IfOk result (λ b. IsGroebnerBasis (F.ops ring.now.coeffs) (O.cmp order.now) ring.now.vars given.now b.polys) }
+    ensures stop { IfErr result (StopsSo (Halts (F.ops ring.now.coeffs) (F.is_element ring.now.coeffs) (F.too_high ring.now.coeffs) ring.now.vars (O.cmp order.now) given.now budget.old budget.new)) }
+    ensures limits { KeepsLimits budget.old budget.new }
+    ensures still_within { IsKept budget.new }
+{
+    basis_by(ring, alloc, given, order, &Grevlex, budget)
+}
+
+/// The same with an order of its own in which the pairs come, by their least common multiples.
+pub fn basis_by<F: Field, O: MonoOrder, S: MonoOrder>(
+    ring: &PolyRing<F>,
+    alloc: Global,
+    given: &[Poly<F>],
+    order: &O,
+    selection: &S,
+    budget: &mut Budget,
+) -> Result<Basis<F>, Stop<F>>
+    requires given { All (IsNormal (F.ops ring.now.coeffs) (F.is_element ring.now.coeffs) ring.now.vars) given.now }
+    requires suits { O.fits order.now ring.now.vars }
+    requires selects { S.fits selection.now ring.now.vars }
+    requires within { IsKept budget.old }
+    ensures journal { IfOk result (λ b. Journal (F.ops ring.now.coeffs) (O.cmp order.now) given.now b.journal b.polys) }
+    ensures sparing { IfOk result (λ b. IsSparing (F.ops ring.now.coeffs) (O.cmp order.now) given.now b.journal) }
     ensures complete { IfOk result (λ b. IsComplete (F.ops ring.now.coeffs) (O.cmp order.now) b.journal b.polys) }
     ensures spent { IfOk result (λ b. SpendsOn b.journal 0 budget.old budget.new) }
     ensures polys { IfOk result (λ b. All (IsNormal (F.ops ring.now.coeffs) (F.is_element ring.now.coeffs) ring.now.vars) b.polys) }
@@ -49,28 +78,31 @@ pub fn basis<F: Field, O: MonoOrder>(
 {
     let _pairs_spent = budget.pairs_spent;
     let _steps_spent = budget.steps_spent;
-    let mut run = begun(ring, alloc, given, order)?;
-    'pairs: while let Some(pair) = run.queue.take() {
-        run = turn(ring, alloc, pair, order, run, budget)?;
+    let mut queue = PairQueue::new(selection, alloc);
+    let mut run = begun(ring, alloc, given, order, &mut queue)?;
+    'pairs: while let Some(pair) = queue.take() {
+        run = turn(ring, alloc, pair, order, run, &mut queue, budget)?;
     }
     Ok(found(run))
 }
 
 // One pair: it is settled and entered, or the run halts at it.
-fn turn<F: Field, O: MonoOrder>(
+fn turn<F: Field, O: MonoOrder, S: MonoOrder>(
     ring: &PolyRing<F>,
     alloc: Global,
     pair: Pair,
     order: &O,
     run: Run<F>,
+    queue: &mut PairQueue<'_, S>,
     budget: &mut Budget,
 ) -> Result<Run<F>, Stop<F>>
     requires suits { O.fits order.now ring.now.vars }
-    requires taking { IsTaking (F.ops ring.now.coeffs) (F.is_element ring.now.coeffs) ring.now.vars (O.cmp order.now) pair.first pair.second run }
+    requires selects { S.fits queue.old.order ring.now.vars }
+    requires taking { IsTaking (F.ops ring.now.coeffs) (F.is_element ring.now.coeffs) ring.now.vars (O.cmp order.now) pair.first pair.second run queue.old }
     requires within { IsKept budget.old }
-    ensures run { (given : List (Polynomial F.Elem)) → Journal (F.ops ring.now.coeffs) (O.cmp order.now) given (journal_of run.journal.items) run.elements.polys.items → IfOk result (IsRun (F.ops ring.now.coeffs) (F.is_element ring.now.coeffs) ring.now.vars (O.cmp order.now) given) }
-    ensures turns { IfOk result (λ r. (count : ℕ) × SpendsBoth 1 count budget.old budget.new × Turns (F.ops ring.now.coeffs) (O.cmp order.now) count run r) }
-    ensures stop { (given : List (Polynomial F.Elem)) (start : Budget) → Journal (F.ops ring.now.coeffs) (O.cmp order.now) given (journal_of run.journal.items) run.elements.polys.items → SpendsOn (journal_of run.journal.items) 0 start budget.old → IfErr result (StopsSo (Halts (F.ops ring.now.coeffs) (F.is_element ring.now.coeffs) (F.too_high ring.now.coeffs) ring.now.vars (O.cmp order.now) given start budget.new)) }
+    ensures run { (given : List (Polynomial F.Elem)) → All (IsNormal (F.ops ring.now.coeffs) (F.is_element ring.now.coeffs) ring.now.vars) given → Journal (F.ops ring.now.coeffs) (O.cmp order.now) given (journal_of run.journal.items) run.elements.polys.items → IsSparing (F.ops ring.now.coeffs) (O.cmp order.now) given (journal_of run.journal.items) → IfOk result (IsRun (F.ops ring.now.coeffs) (F.is_element ring.now.coeffs) ring.now.vars (O.cmp order.now) given queue.new) }
+    ensures turns { IfOk result (λ r. (count : ℕ) × SpendsBoth 1 count budget.old budget.new × Turns (F.ops ring.now.coeffs) (O.cmp order.now) count run queue.old r queue.new) }
+    ensures stop { (given : List (Polynomial F.Elem)) (start : Budget) → All (IsNormal (F.ops ring.now.coeffs) (F.is_element ring.now.coeffs) ring.now.vars) given → Journal (F.ops ring.now.coeffs) (O.cmp order.now) given (journal_of run.journal.items) run.elements.polys.items → IsSparing (F.ops ring.now.coeffs) (O.cmp order.now) given (journal_of run.journal.items) → SpendsOn (journal_of run.journal.items) 0 start budget.old → IfErr result (StopsSo (Halts (F.ops ring.now.coeffs) (F.is_element ring.now.coeffs) (F.too_high ring.now.coeffs) ring.now.vars (O.cmp order.now) given start budget.new)) }
     ensures limits { KeepsLimits budget.old budget.new }
     ensures still_within { IsKept budget.new }
 {
@@ -79,34 +111,46 @@ fn turn<F: Field, O: MonoOrder>(
         let why = Why::Pairs { first, second };
         return Err(halted_idle(ring, alloc, run, why));
     }
-    let outcome = match settle(ring, alloc, &run.elements, pair, order, budget) {
+    let outcome = match settle(
+        ring,
+        alloc,
+        &run.elements,
+        queue,
+        run.last_third,
+        pair,
+        order,
+        budget,
+    ) {
         Ok(outcome) => outcome,
-        Err(stop) => return Err(halted_in_division(ring, alloc, order, run, stop)),
+        Err(stop) => return Err(halted_in_division(ring, alloc, order, pair, run, stop)),
     };
     count_pair(budget);
-    entered(ring, alloc, pair, outcome, order, run)
+    entered(ring, alloc, pair, outcome, order, run, queue)
 }
 
 // The run after a pair, with the pairs of a rest that was added; it halts where one of these is too high.
-fn entered<F: Field, O: MonoOrder>(
+fn entered<F: Field, O: MonoOrder, S: MonoOrder>(
     ring: &PolyRing<F>,
     alloc: Global,
     pair: Pair,
     outcome: Outcome<F>,
     order: &O,
     mut run: Run<F>,
+    queue: &mut PairQueue<'_, S>,
 ) -> Result<Run<F>, Stop<F>>
     requires suits { O.fits order.now ring.now.vars }
-    requires taking { IsTaking (F.ops ring.now.coeffs) (F.is_element ring.now.coeffs) ring.now.vars (O.cmp order.now) pair.first pair.second run }
+    requires selects { S.fits queue.old.order ring.now.vars }
+    requires taking { IsTaking (F.ops ring.now.coeffs) (F.is_element ring.now.coeffs) ring.now.vars (O.cmp order.now) pair.first pair.second run queue.old }
     requires settled { Settles (F.ops ring.now.coeffs) (O.cmp order.now) run.elements.polys.items pair.first pair.second outcome }
+    requires third { SettlesBy queue.old pair.first pair.second outcome }
     requires rest { SettlesWith (IsNormal (F.ops ring.now.coeffs) (F.is_element ring.now.coeffs) ring.now.vars) outcome }
-    ensures run { (given : List (Polynomial F.Elem)) → Journal (F.ops ring.now.coeffs) (O.cmp order.now) given (journal_of run.journal.items) run.elements.polys.items → IfOk result (IsRun (F.ops ring.now.coeffs) (F.is_element ring.now.coeffs) ring.now.vars (O.cmp order.now) given) }
-    ensures turns { IfOk result (Turns (F.ops ring.now.coeffs) (O.cmp order.now) (steps_with outcome) run) }
-    ensures stop { (given : List (Polynomial F.Elem)) → Journal (F.ops ring.now.coeffs) (O.cmp order.now) given (journal_of run.journal.items) run.elements.polys.items → IfErr result (StopsSo (HaltsAfter (F.ops ring.now.coeffs) (O.cmp order.now) given (journal_of run.journal.items) (steps_with outcome))) }
+    ensures run { (given : List (Polynomial F.Elem)) → All (IsNormal (F.ops ring.now.coeffs) (F.is_element ring.now.coeffs) ring.now.vars) given → Journal (F.ops ring.now.coeffs) (O.cmp order.now) given (journal_of run.journal.items) run.elements.polys.items → IsSparing (F.ops ring.now.coeffs) (O.cmp order.now) given (journal_of run.journal.items) → IfOk result (IsRun (F.ops ring.now.coeffs) (F.is_element ring.now.coeffs) ring.now.vars (O.cmp order.now) given queue.new) }
+    ensures turns { IfOk result (λ r. Turns (F.ops ring.now.coeffs) (O.cmp order.now) (steps_with outcome) run queue.old r queue.new) }
+    ensures stop { (given : List (Polynomial F.Elem)) → All (IsNormal (F.ops ring.now.coeffs) (F.is_element ring.now.coeffs) ring.now.vars) given → Journal (F.ops ring.now.coeffs) (O.cmp order.now) given (journal_of run.journal.items) run.elements.polys.items → IsSparing (F.ops ring.now.coeffs) (O.cmp order.now) given (journal_of run.journal.items) → IfErr result (StopsSo (HaltsAfter (F.ops ring.now.coeffs) (O.cmp order.now) given (journal_of run.journal.items) (steps_with outcome))) }
 {
     let added = place(run.elements.polys.len())?;
     if enter(ring, alloc, pair, outcome, order, &mut run)? {
-        if let Err(fault) = run.queue.add_element(&run.elements.leads, added) {
+        if let Err(fault) = queue.add_element(alloc, &run.elements.leads, added) {
             return Err(halted_at_pair(ring, alloc, run, fault));
         }
     }

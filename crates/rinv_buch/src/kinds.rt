@@ -1,6 +1,7 @@
 //! What Buchberger's algorithm answers: a list with its journal, or where it halted and why.
 
 use rinv_mono::Mono;
+use rinv_pairs::Pair;
 use rinv_poly::Poly;
 use rinv_ring::{Field, NoMemory};
 use std::alloc::AllocFailed;
@@ -53,21 +54,23 @@ pub enum Why {
     Degree { left: u32, right: u32 },
 }
 
-/// Where the algorithm halted: the list and its journal so far, and what the steps so far leave of the S-polynomial at work.
+/// Where the algorithm halted: the list and its journal so far, what the steps so far leave of the S-polynomial at work, and the pair that it is of; none
+/// where nothing is at work.
 #[derive(Drop)]
 pub struct Halt<F: Field> {
     pub polys: Vec<Poly<F>>,
     pub journal: Vec<Entry>,
     pub working: Poly<F>,
+    pub origin: Option<Pair>,
     pub why: Why,
 }
 
 impl<F: Field> Model for Halt<F> {
-    ghost use Rattle.rinv_buch.specs.Kinds.{Halted, journal_of};
+    ghost use Rattle.rinv_buch.specs.Kinds.{Halted, journal_of, places_of};
 
     ghost Value = { Halted F.Elem };
 
-    ghost view = { λ h. record { polys = h.polys.items; journal = journal_of h.journal.items; working = h.working; why = h.why } };
+    ghost view = { λ h. record { polys = h.polys.items; journal = journal_of h.journal.items; working = h.working; origin = places_of h.origin; why = h.why } };
 }
 
 /// Why there is no basis.

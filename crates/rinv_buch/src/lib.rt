@@ -11,7 +11,7 @@ mod s_polynomial;
 mod settling;
 mod spending;
 
-pub use buchberger::basis;
+pub use buchberger::{basis, basis_by};
 pub use kinds::{Basis, Entry, EntryKind, Halt, Stop, Why};
 pub use reducing::{interreduce, kept_places};
 pub use s_polynomial::{leading_term, s_polynomial_of};

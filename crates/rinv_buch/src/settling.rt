@@ -1,6 +1,8 @@
-//! One pair: nothing is to be done where it is coprime, else its S-polynomial is divided.
+//! One pair: nothing is to be done where it is coprime or a third element settles it, else its S-polynomial is divided.
 
-ghost use Rattle.std.specs.Prelude.{◌≡◌, ◌<◌, ◌≤◌, length, IsTrue, IfOk, IfErr};
+ghost use Rattle.std.specs.Prelude.{◌≡◌, ◌<◌, ◌≤◌, ℕ, length, map, IsTrue, IfOk, IfErr};
+ghost use Rattle.rinv_algebra.specs.Leading.{leading_monomial};
+ghost use Rattle.rinv_pairs.specs.Pairs.{HasThird};
 ghost use Rattle.rinv_algebra.specs.Monomial.{total_degree, max_degree};
 ghost use Rattle.rinv_algebra.specs.Normal.{IsNormal};
 ghost use Rattle.rinv_groebner.specs.Settled.{lcm_at};
@@ -10,14 +12,14 @@ ghost use Rattle.rinv_div.specs.Budgets.{Spends};
 ghost use Rattle.rinv_div.specs.Stops.{StopsBy};
 ghost use Rattle.rinv_buch.specs.Spent.{IsKept, KeepsLimits};
 ghost use Rattle.rinv_buch.specs.Elements.{ArePrepared};
-ghost use Rattle.rinv_buch.specs.Runs.{Settles, SettlesWith, steps_with, RunsOutAt, MeetsDegreeAt};
+ghost use Rattle.rinv_buch.specs.Runs.{Settles, SettlesBy, SettlesWith, steps_with, RunsOutAt, MeetsDegreeAt};
 
 use crate::elements::Elements;
 use crate::s_polynomial::s_polynomial_of;
 use crate::spending::{count_steps, steps_left};
 use rinv_div::{Budget, DivStop, remainder_by};
 use rinv_mono::MonoOrder;
-use rinv_pairs::{Pair, coprime};
+use rinv_pairs::{Pair, PairQueue, coprime};
 use rinv_poly::{Poly, PolyRing};
 use rinv_ring::{Field, Ring, RingFault};
 use std::alloc::Global;
@@ -26,15 +28,18 @@ use std::alloc::Global;
 #[derive(Drop)]
 pub enum Outcome<F: Field> {
     Coprime,
+    Chain { by: u32 },
     Reduced { rest: Poly<F>, steps: u64 },
 }
 
-/// Settles the pair of two places: by its leading monomials, or by dividing its S-polynomial. The steps are counted in the budget. A stop
+/// Settles the pair of two places: by its leading monomials, by a third element, or by dividing its S-polynomial. The steps are counted in the budget. A stop
 /// without memory left keeps what it has spent.
-pub fn settle<F: Field, O: MonoOrder>(
+pub fn settle<F: Field, O: MonoOrder, S: MonoOrder>(
     ring: &PolyRing<F>,
     alloc: Global,
     elements: &Elements<F>,
+    queue: &PairQueue<'_, S>,
+    hint: u32,
     pair: Pair,
     order: &O,
     budget: &mut Budget,
@@ -44,8 +49,11 @@ pub fn settle<F: Field, O: MonoOrder>(
     requires ascending { pair.first < pair.second }
     requires inside { pair.second < length elements.now.polys.items }
     requires low { total_degree (lcm_at (F.ops ring.now.coeffs) (O.cmp order.now) elements.now.polys.items pair.first pair.second) ≤ max_degree }
+    requires leads { queue.now.leads ≡ map (leading_monomial (F.ops ring.now.coeffs) (O.cmp order.now)) elements.now.polys.items }
     requires within { IsKept budget.old }
     ensures settles { IfOk result (Settles (F.ops ring.now.coeffs) (O.cmp order.now) elements.now.polys.items pair.first pair.second) }
+    ensures third { IfOk result (SettlesBy queue.now pair.first pair.second) }
+    ensures no_third { IfErr result (StopsBy (λ _. (by : ℕ) → HasThird queue.now pair.first pair.second by → ⊥) (λ _ _ _. (by : ℕ) → HasThird queue.now pair.first pair.second by → ⊥)) }
     ensures spent { IfOk result (λ s. Spends (steps_with s) budget.old budget.new) }
     ensures rest { IfOk result (SettlesWith (IsNormal (F.ops ring.now.coeffs) (F.is_element ring.now.coeffs) ring.now.vars)) }
     ensures stop { IfErr result (StopsBy (RunsOutAt (F.ops ring.now.coeffs) (O.cmp order.now) elements.now.polys.items pair.first pair.second budget.old budget.new) (MeetsDegreeAt (F.ops ring.now.coeffs) (F.is_element ring.now.coeffs) (F.too_high ring.now.coeffs) ring.now.vars (O.cmp order.now) elements.now.polys.items pair.first pair.second budget.old budget.new)) }
@@ -57,6 +65,9 @@ pub fn settle<F: Field, O: MonoOrder>(
     let (first, second) = (pair.first as usize, pair.second as usize);
     if coprime(&elements.leads[first], &elements.leads[second]) {
         return Ok(Outcome::Coprime);
+    }
+    if let Some(by) = queue.third(pair, hint) {
+        return Ok(Outcome::Chain { by });
     }
     let (f, g) = (&elements.polys[first], &elements.polys[second]);
     let s = match s_polynomial_of(ring, alloc, f, g, order) {

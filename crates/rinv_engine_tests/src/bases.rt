@@ -23,6 +23,15 @@ const REDUCED: &[&[Term]] = &[&[(1, 1, 0), (100, 0, 1)], &[(1, 0, 2), (100, 0, 0
 // x^6000 - 1 and y^6000 - 1.
 const HIGH: &[&[Term]] = &[&[(1, 6000, 0), (100, 0, 0)], &[(1, 0, 6000), (100, 0, 0)]];
 
+// x^2*y, x*y^2 and x*y: the third settles the pair of the first two.
+const CHAINED: &[&[Term]] = &[&[(1, 2, 1)], &[(1, 1, 2)], &[(1, 1, 1)]];
+
+const CHAINED_KINDS: &[EntryKind] = &[
+    EntryKind::Reduced { added: None },
+    EntryKind::Reduced { added: None },
+    EntryKind::Chain { by: 2 },
+];
+
 // Polynomials with the leading monomials x^2*y, x*y, x*y and y^2, and the places of those that stay in a reduced basis.
 const LED: &[&[Term]] = &[
     &[(1, 2, 1)],
@@ -46,8 +55,8 @@ enum End {
 // What is given and the limits on pairs and steps, none for a run without end; how the run ends, and the number of entries in its journal.
 const ENDS: &[(&[&[Term]], Option<(u32, u64)>, End, usize)] = &[
     (LOW, Some((0, 10)), End::Pairs(0, 1), 0),
-    (LOW, Some((1, 10)), End::Pairs(0, 2), 1),
-    (LOW, Some((10, 0)), End::Steps, 1),
+    (LOW, Some((1, 10)), End::Pairs(1, 2), 1),
+    (LOW, Some((10, 0)), End::Steps, 2),
     (LOW, None, End::Complete, 6),
     (HIGH, None, End::Degree(6000, 6000), 0),
 ];
@@ -125,6 +134,26 @@ fn spends_and_adds(alloc: Global, ring: &PolyRing<Gf>, lists: &[&[Term]]) -> boo
         }
         None => false,
     }
+}
+
+// Whether the entries of the run are of these kinds, and take no step.
+fn has_entries(alloc: Global, ring: &PolyRing<Gf>, lists: &[&[Term]], kinds: &[EntryKind]) -> bool
+    requires vars { ring.now.vars ≡ 2 }
+{
+    let mut spent = budget_of(None);
+    let Ok(found) = run(alloc, ring, lists, &mut spent) else {
+        return false;
+    };
+    if found.journal.len() != kinds.len() {
+        return false;
+    }
+    'entries: for k in 0..kinds.len() {
+        let entry = &found.journal[k];
+        if entry.kind != kinds[k] || entry.steps > 0 {
+            return false;
+        }
+    }
+    true
 }
 
 // The reduced basis, where ten pairs and steps are enough.
@@ -214,6 +243,13 @@ fn ends_where_the_budget_or_the_limit_does(rt: HostRuntime) -> Result<(), Fail> 
     for (lists, limits, end, entries) in ENDS {
         assert_eq!(rt; end_of(rt.alloc(), &ring, lists, *limits), (*end, *entries));
     }
+    Ok(())
+}
+
+#[test]
+fn settles_by_a_third_element(rt: HostRuntime) -> Result<(), Fail> {
+    let ring = PolyRing::new(Gf::new(101)?, 2);
+    assert!(rt; has_entries(rt.alloc(), &ring, CHAINED, CHAINED_KINDS));
     Ok(())
 }
 

@@ -3,6 +3,7 @@
 --   group_basis-of               what is known of the group's ideal
 --   stops-over, reducing-halts   where the run halts
 use Rattle.std.proofs.Common.{◌≡◌, ℕ, List, IsTrue, refl, sym, subst, inl, inr, nat_lt, All}
+use Rattle.std.specs.Prelude.{None}
 use Rattle.rinv_algebra.specs.Residue.{residue_ops}
 use Rattle.rinv_algebra.specs.Order.{grevlex}
 use Rattle.rinv_algebra.specs.Polynomial.{is_zero}
@@ -66,11 +67,12 @@ module _ (s : System) (p v : ℕ) (fs : List Poly) (field : p ≡ s.p) (vars : v
   -- in the making of the reduced basis
   pub reducing-halts : (found : Found ℕ) (working : Poly) (left right : ℕ) → Journal (residue_ops p) grevlex fs found.journal found.polys → IsComplete (residue_ops p) grevlex found.journal found.polys → SpendsOn found.journal 0 before after
       → IsTrue (is_zero (residue_ops p) working) → ReducingMeets (residue_ops p) (λ c. nat_lt c p) never v grevlex found.polys left right
-      → HaltsInGroup s before after (record { polys = found.polys; journal = found.journal; working = working; why = Degree left right })
+      → HaltsInGroup s before after (record { polys = found.polys; journal = found.journal; working = working; origin = None; why = Degree left right })
   reducing-halts found working left right journal complete spent idle meets = inr (record {
     journal = subst (λ (q : ℕ). Journal (residue_ops q) grevlex s.ideal found.journal found.polys) field (subst (λ (gs : List Poly). Journal (residue_ops p) grevlex gs found.journal found.polys) is journal);
     complete = subst (λ (q : ℕ). IsComplete (residue_ops q) grevlex found.journal found.polys) field complete;
     idle = subst (λ (q : ℕ). IsTrue (is_zero (residue_ops q) working)) field idle;
+    none = refl;
     spent = spent;
     left = left;
     right = right;

@@ -1,5 +1,5 @@
 -- What is known of the group's ideal.
-use Rattle.std.specs.Prelude.{◌≡◌, ◌⊎◌, ℕ, List, nat_lt, All, IsTrue}
+use Rattle.std.specs.Prelude.{◌≡◌, ◌⊎◌, ℕ, List, None, nat_lt, All, IsTrue}
 use Rattle.rinv_algebra.specs.Residue.{residue_ops}
 use Rattle.rinv_algebra.specs.Order.{grevlex}
 use Rattle.rinv_algebra.specs.Polynomial.{is_zero}
@@ -29,6 +29,7 @@ pub record HaltsReducing (s : System) (before after : Budget) (h : Halted ℕ) :
   pub journal : Journal (residue_ops s.p) grevlex s.ideal h.journal h.polys
   pub complete : IsComplete (residue_ops s.p) grevlex h.journal h.polys
   pub idle : IsTrue (is_zero (residue_ops s.p) h.working)
+  pub none : h.origin ≡ None
   pub spent : SpendsOn h.journal 0 before after
   pub left : ℕ
   pub right : ℕ

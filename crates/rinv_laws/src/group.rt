@@ -51,6 +51,7 @@ pub fn group_basis(
                 polys: found.polys,
                 journal: found.journal,
                 working,
+                origin: None,
                 why: Why::Degree { left, right },
             }))
         }

@@ -1,4 +1,5 @@
 use Rattle.std.proofs.Common.{◌∙◌, ℕ, ap, length, nat_lt, subst, sym}
+use Rattle.std.specs.Prelude.{None}
 use Rattle.std.proofs.lemmas.Result.{err_from_is_err_and}
 use Rattle.rinv_text.specs.Told.{Told}
 use Rattle.rinv_text.proofs.SystemParts.{parts-of}
@@ -60,7 +61,7 @@ returns-in_ok-working-in-Err-Degree-clause-stop c =
     let working = c.in_ok-working-in-Err-Degree.working in
     let left = c.in-Err-Degree.left in
     let right = c.in-Err-Degree.right in
-    subst (λ (f : Found ℕ). HaltsInGroup s c.args.budget.now c.basis.new.budget (record { polys = f.polys; journal = f.journal; working = working; why = Degree left right })) (sym c.found.view_is)
+    subst (λ (f : Found ℕ). HaltsInGroup s c.args.budget.now c.basis.new.budget (record { polys = f.polys; journal = f.journal; working = working; origin = None; why = Degree left right })) (sym c.found.view_is)
     (reducing-halts s c.new-ring.result.coeffs c.new-ring.result.vars c.deref.result.now
     (c.new-ring.ensures.ring ∙ ap (λ (t : Told). t.system.p) c.system.view_is)
     (c.new-ring.ensures.count ∙ c.len.ensures.len ∙ ap (λ (t : Told). length t.system.group) c.system.view_is)
