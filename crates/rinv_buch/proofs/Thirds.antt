@@ -1,6 +1,5 @@
 -- A third element of a pair that was taken, by the queue and by the journal.
 use Rattle.std.proofs.Common.{◌≡◌, ℕ, ◌<◌, min, max, Bool, false, ◌||◌, ◌&&◌, ◌==◌, List, [], ◌∷◌, ◌++◌, map, length, get_or, sym, ◌∙◌, ap, ap₂, arith, IsTrue}
-use Rattle.std.specs.Prelude.{not}
 use Rattle.std.proofs.lemmas.Bool.Decides.{nat_tests}
 use Rattle.std.proofs.lemmas.List.{get_or-map, length-map}
 use Rattle.std.proofs.lemmas.List.Folds.{list_any-append}
