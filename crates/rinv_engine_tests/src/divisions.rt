@@ -5,6 +5,7 @@ ghost use Rattle.std.specs.Prelude.{◌≡◌};
 ghost use Rattle.rinv_div.specs.Budgets.{IsWithin};
 
 use crate::tables::{Term, are_lists, is_list, nonzero, polynomial};
+use crate::wide_step::{FULL, ROW, TALL};
 use rinv_div::{
     Budget, DivStop, Division, divide, divide_by, divide_wholly, divisors_of, remainder_by,
     remainder_wholly,
@@ -35,6 +36,8 @@ const DIVIDED: &[(u64, &[Term], &[&[Term]], u64, &[&[Term]], &[Term], u64)] = &[
         &[(1, 1, 0)],
         1,
     ),
+    (7, &[(1, 13, 0)], &[TALL], 1, &[&[(1, 1, 0)]], ROW, 1),
+    (7, FULL, &[TALL], 1, &[&[(1, 1, 0)]], &[], 1),
 ];
 
 // The modulus, the dividend, the divisors and the steps that are given, which are too few; what is left when they are spent.

@@ -1,4 +1,4 @@
-//! Tests of what the crates below make public. They stand in a crate of their own, so that no crate is proved once more with its tests.
+//! Tests of divisions, of bases and of cofactors. They stand in a crate of their own, so that no crate is proved once more with its tests.
 #![tactic(auto)]
 
 #[cfg(test)]
@@ -8,8 +8,6 @@ mod divisions;
 #[cfg(test)]
 mod monic_divisions;
 #[cfg(test)]
-mod polynomials;
-#[cfg(test)]
-mod substitutions;
-#[cfg(test)]
 mod tables;
+#[cfg(test)]
+mod wide_step;
