@@ -33,6 +33,8 @@ pub mod RingProducts
 pub mod Constants
 pub mod Low
 pub mod Standing
+pub mod Crossings
+pub mod Definitions
 pub mod Numbers
 pub mod Powers
 pub mod Piles

@@ -1,17 +1,21 @@
 //! Names of variables, and polynomials and fractions as text.
 #![tactic(auto)]
 
+mod defs;
 mod digits;
 mod fault;
 mod form;
+mod formal;
 mod fraction;
 pub mod laws;
 mod limits;
 mod names;
 mod parser;
 mod partial;
+mod parts;
 mod polynomial;
 mod reading;
+mod refusal;
 mod size;
 mod step;
 mod system;
@@ -20,9 +24,11 @@ mod token;
 mod tokens;
 mod value;
 
+pub use defs::{Abbreviation, Defs};
 pub use digits::number;
 pub use fault::{TextCode, TextFault, TextStop};
 pub use form::{has_name_form, is_digit, is_letter};
+pub use formal::Formal;
 pub use fraction::write_fraction;
 pub use names::Names;
 pub use partial::variable;

@@ -1,0 +1,40 @@
+-- Lists of abbreviations.
+--   none-defined, one-more     they stay apart and bounded
+use Rattle.std.proofs.Common.{◌≡◌, ℕ, List, [], ◌∷◌, ◌++◌, map, All, Bool, true, false, ◌||◌, refl, sym, ◌∙◌, bytes_eq, inl, inr, true≢false}
+use Rattle.std.specs.List.{list_any, IsDistinct, AllByRecursion}
+use Rattle.std.proofs.lemmas.Bool.{cases_Bool}
+use Rattle.std.proofs.lemmas.Slice.Eq.{bytes_eq-Decides}
+use Rattle.std.proofs.lemmas.List.Elements.{All-nil, All-push}
+use Rattle.rinv_text.specs.Reading.{Definition, IsBounded, AreDefinitions}
+
+-- no abbreviation
+pub none-defined : (defs : List Definition) → defs ≡ [] → AreDefinitions defs
+unfolding IsDistinct
+none-defined [] e = record { distinct = tt; bounded = All-nil IsBounded }
+none-defined (d ∷ defs) e = cc
+
+flipped : (v w : List ℕ) → bytes_eq v w ≡ false → bytes_eq w v ≡ false
+flipped v w off = elim (cases_Bool (bytes_eq w v)) [
+  | inl here ↦ absurd (true≢false (sym ((bytes_eq-Decides v w).1 (sym ((bytes_eq-Decides w v).0 here))) ∙ off))
+  | inr e ↦ e
+]
+
+either-false : (a b : Bool) → (a || b) ≡ false → (a ≡ false) × (b ≡ false)
+either-false true b e = cc
+either-false false b e = (refl, e)
+
+-- a name that is none of them stands behind them
+apart-behind : (v : List ℕ) (d : Definition) (defs : List Definition) → AllByRecursion (λ w. bytes_eq v w ≡ false) (map (λ e. e.name) defs) → bytes_eq v d.name ≡ false → AllByRecursion (λ w. bytes_eq v w ≡ false) (map (λ e. e.name) (defs ++ d ∷ []))
+apart-behind v d [] h off = (off, tt)
+apart-behind v d (e ∷ defs) (x, h) off = (x, apart-behind v d defs h off)
+
+distinct-behind : (d : Definition) (defs : List Definition) → IsDistinct bytes_eq (map (λ e. e.name) defs) → list_any (λ e. bytes_eq d.name e.name) defs ≡ false → IsDistinct bytes_eq (map (λ e. e.name) (defs ++ d ∷ []))
+unfolding IsDistinct
+distinct-behind d [] h off = (tt, tt)
+distinct-behind d (e ∷ defs) (x, h) off =
+    let (here, later) = either-false (bytes_eq d.name e.name) (list_any (λ e. bytes_eq d.name e.name) defs) off in
+    (apart-behind e.name d defs x (flipped d.name e.name here), distinct-behind d defs h later)
+
+-- one more
+pub one-more : (old new : List Definition) (d : Definition) → new ≡ old ++ d ∷ [] → AreDefinitions old → list_any (λ e. bytes_eq d.name e.name) old ≡ false → IsBounded d → AreDefinitions new
+one-more old new d e h off low = rw e (record { distinct = distinct-behind d old h.distinct off; bounded = All-push IsBounded old d h.bounded low })

@@ -1,0 +1,4 @@
+use Rattle.rinv_text.proofs.value.defined.Goals as goal
+
+pub returns : goal.returns
+returns c = ?
