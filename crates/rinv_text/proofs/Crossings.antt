@@ -1,5 +1,6 @@
 -- Numerators and denominators of parts of an expression, where a denominator may be left out.
 --   over-alone, over-first, over-second     products with a denominator that is left out
+--   over-both                               of two that are kept
 --   over-power                              its powers
 --   ...-low                                 degrees that may be multiplied
 use Rattle.std.proofs.Common.{◌≡◌, ℕ, zero, suc, ◌+◌, ◌*◌, ◌≤◌, max, List, Bool, true, false, ◌||◌, nat_lt, refl, sym, ap, ap₂, subst, ◌∙◌, arith, Option, Some, None, IsTrue}
@@ -14,8 +15,8 @@ use Rattle.rinv_algebra.proofs.ResidueLaws.{residue_laws}
 use Rattle.rinv_text.specs.declared.formal.Formal.{Formal}
 use Rattle.rinv_text.specs.Formal.{is_above}
 use Rattle.rinv_text.specs.Reading.{to_the}
-use Rattle.rinv_text.specs.Values.{IsStored, IsOver, IsSplit}
-use Rattle.rinv_text.proofs.Low.{low-weaker}
+use Rattle.rinv_text.specs.Values.{IsNormalOver, IsStored, IsOver, IsSplit}
+use Rattle.rinv_text.proofs.Low.{low-weaker, low-product, low-normal}
 
 -- degrees that are not above the formal limit may be multiplied
 pub num-low : (f : Formal) → is_above f ≡ false → f.num_degree ≤ max_degree
@@ -58,6 +59,10 @@ module _ (p v : ℕ) where
   pub some-over : (d : ℕ) (f r : Polynomial ℕ) (den : Option (Polynomial ℕ)) → den ≡ Some r → IsOver p v d f den → IsStored p v d f r
   some-over d f r den e h = subst (λ x. IsOver p v d f x) e h
 
+  -- 1 is left out
+  pub over-one : IsOver p v 0 one None
+  over-one = L.same_refl one
+
   -- a numerator over a denominator that is left out
   pub over-alone : (s d e : ℕ) (fs : List (Polynomial ℕ)) (f g : Polynomial ℕ) → IsSplit p v s fs d f → IsSame P g one → IsSplit p v s fs (d + e) (product o f g)
   over-alone s d e fs f g x h = record {
@@ -78,6 +83,14 @@ module _ (p v : ℕ) where
   -- the second
   pub over-second : (d e : ℕ) (f g r : Polynomial ℕ) → IsSame P g one → IsStored p v d f r → IsStored p v (d + e) (product o f g) r
   over-second d e f g r h k = stored-as d (d + e) f (product o f g) r (omega arith) (times-one f g h) k
+
+  -- of two that are kept
+  pub over-both : (d e : ℕ) (f g a b r : Polynomial ℕ) → IsStored p v d f a → IsStored p v e g b → IsNormalOver p v r → IsSame P r (product o a b) → IsStored p v (d + e) (product o f g) r
+  over-both d e f g a b r sa sb n h = record {
+    normal = n;
+    low = low-normal p v (d + e) r (product o a b) n h (low-product o d e a b sa.low sb.low);
+    value = facts.then P L h (facts.mul2 P L sa.value sb.value);
+  }
 
   -- its powers
   pub over-power : (f : Polynomial ℕ) (k : ℕ) → IsSame P f one → IsSame P (to_the o k f) one

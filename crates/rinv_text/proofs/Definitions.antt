@@ -1,11 +1,21 @@
 -- Lists of abbreviations.
 --   none-defined, one-more     they stay apart and bounded
-use Rattle.std.proofs.Common.{◌≡◌, ℕ, List, [], ◌∷◌, ◌++◌, map, All, Bool, true, false, ◌||◌, refl, sym, ◌∙◌, bytes_eq, inl, inr, true≢false}
+--   defined-stands             what is kept of one
+use Rattle.std.proofs.Common.{◌≡◌, ℕ, List, [], ◌∷◌, ◌++◌, map, All, Bool, true, false, ◌||◌, refl, sym, subst, ◌∙◌, Some, bytes_eq, inl, inr, true≢false}
 use Rattle.std.specs.List.{list_any, IsDistinct, AllByRecursion}
 use Rattle.std.proofs.lemmas.Bool.{cases_Bool}
 use Rattle.std.proofs.lemmas.Slice.Eq.{bytes_eq-Decides}
 use Rattle.std.proofs.lemmas.List.Elements.{All-nil, All-push}
+use Rattle.rinv_algebra.specs.Residue.{residue_ops}
+use Rattle.rinv_algebra.specs.Polynomial.{Polynomial}
+use Rattle.rinv_algebra.proofs.ResidueLaws.{residue_laws}
+use Rattle.rinv_poly.proofs.Gather.{same-refl}
+use Rattle.rinv_frac.specs.Fractions.{IsStored}
+use Rattle.rinv_frac.proofs.Stored.{stored}
+use Rattle.rinv_text.specs.declared.partial.Partial.{Partial}
 use Rattle.rinv_text.specs.Reading.{Definition, IsBounded, AreDefinitions}
+use Rattle.rinv_text.specs.Values.{IsStored as IsKept, Stands}
+use Rattle.rinv_text.specs.Meanings.{defined_meaning, StandsFor}
 
 -- no abbreviation
 pub none-defined : (defs : List Definition) → defs ≡ [] → AreDefinitions defs
@@ -38,3 +48,12 @@ distinct-behind d (e ∷ defs) (x, h) off =
 -- one more
 pub one-more : (old new : List Definition) (d : Definition) → new ≡ old ++ d ∷ [] → AreDefinitions old → list_any (λ e. bytes_eq d.name e.name) old ≡ false → IsBounded d → AreDefinitions new
 one-more old new d e h off low = rw e (record { distinct = distinct-behind d old h.distinct off; bounded = All-push IsBounded old d h.bounded low })
+
+-- what is kept of an abbreviation stands for it
+pub defined-stands : (p v : ℕ) (d : Definition) (num den : Polynomial ℕ) (kept : Partial) → IsStored p v d.value → IsBounded d → num ≡ d.value.0 → den ≡ d.value.1 → ((e : ℕ) (g : Polynomial ℕ) → IsKept p v e g num → Stands p v e g kept)
+    → StandsFor p v (record { num = kept; den = Some den; by_zero = false }) (defined_meaning d)
+defined-stands p v d num den kept s low en ed stands = record {
+  num = stands d.formal.num_degree d.value.0 (subst (λ r. IsKept p v d.formal.num_degree d.value.0 r) (sym en) (record { normal = (stored p v d.value s).numerator; low = low.numerator; value = same-refl (residue_ops p) (residue_laws p) d.value.0 }));
+  den = subst (λ r. IsKept p v d.formal.den_degree d.value.1 r) (sym ed) (record { normal = (stored p v d.value s).denominator; low = low.denominator; value = same-refl (residue_ops p) (residue_laws p) d.value.1 });
+  by_zero = refl;
+}

@@ -1,13 +1,12 @@
 -- From the passes of the reader to what tokens denote, or to their refusal.
 --   fault-seen         what the reader refuses is what is refused
 --   answer-...         the answers of the reader, to the text of a polynomial
-use Rattle.std.proofs.Common.{◌≡◌, ℕ, List, [], ◌∷◌, length, map, Bool, true, false, if◌then◌else◌, refl, sym, ap, subst, ◌∙◌, IsTrue, Option, Some, None, Result, Ok, Err, nat_lt, ◌<◌, All}
+use Rattle.std.proofs.Common.{◌≡◌, ℕ, List, [], ◌∷◌, length, map, Bool, true, false, if◌then◌else◌, refl, sym, ap, subst, ◌∙◌, IsTrue, Option, Some, None, Result, Ok, Err, nat_lt}
 use Rattle.rinv_algebra.specs.Residue.{is_listed}
 use Rattle.rinv_text.specs.declared.token.Placed.{Placed as Seen}
 use Rattle.rinv_text.specs.declared.step.Step.{Step}
 use Rattle.rinv_text.specs.declared.formal.Formal.{Formal}
 use Rattle.rinv_text.specs.declared.size.Size.{Size}
-use Rattle.rinv_text.specs.declared.parts.Parts.{Parts}
 use Rattle.rinv_text.specs.declared.fault.TextFault.{TextFault}
 use Rattle.rinv_text.specs.declared.fault.TextStop.{TextStop}
 use Rattle.rinv_text.specs.declared.fault.TextStop.TheVariants.{Fault, NoMemory}
@@ -25,8 +24,8 @@ use Rattle.rinv_text.specs.Evaluation.{outcome}
 use Rattle.rinv_text.specs.Sizes.{sizes}
 use Rattle.rinv_text.specs.Sightings.{first_unknown_word, first_place, size_excess, excess_of, fault_by, fault_of, IsRead}
 use Rattle.rinv_algebra.specs.Polynomial.{Polynomial}
-use Rattle.rinv_text.specs.Values.{IsNormalOver, IsStored, Stands}
-use Rattle.rinv_text.specs.Meanings.{Meaning, meanings, named_at, StandsFor}
+use Rattle.rinv_text.specs.Values.{IsNormalOver, IsStored}
+use Rattle.rinv_text.specs.Meanings.{Meaning, meanings, named_at}
 use Rattle.rinv_text.proofs.Malformed.{parsed-ok, parsed-err, stuck-malformed}
 use Rattle.rinv_text.proofs.Postfix.{outcome-steps}
 use Rattle.rinv_text.proofs.Judged.{size_of, sizes-result}
@@ -175,25 +174,17 @@ module _ (p : ℕ) (names : List (List ℕ)) (text : List ℕ) (ts : List Seen) 
     pub answer-meaning : (g : Meaning) × (outcome (meanings q (named_at q n defs)) ss ≡ Some g)
     answer-meaning = (meant, means)
 
-    module _ (x : Parts) (each : (g : Meaning) → outcome (meanings q (named_at q n defs)) ss ≡ Some g → StandsFor q n x g) where
-      num-stands : Stands q n meant.numbers.num_degree meant.value.0 x.num
-      num-stands = (each meant means).num
+    module _ (r : Polynomial ℕ) (each : (g : Meaning) → outcome (meanings q (named_at q n defs)) ss ≡ Some g → IsStored q n g.numbers.num_degree g.value.0 r) where
+      stored : IsStored p (length names) meant.numbers.num_degree meant.value.0 r
+      stored =
+          subst (λ (m : ℕ). IsStored p m meant.numbers.num_degree meant.value.0 r) (vars ∙ all)
+          (subst (λ (m : ℕ). IsStored m n meant.numbers.num_degree meant.value.0 r) field (each meant means))
 
-      -- the numerator is kept as it should be
-      pub answer-partial : (x.num.scalar < q) × All (IsNormalOver q n) x.num.summands.items
-      answer-partial = (num-stands.scalar, num-stands.normal)
+      -- the polynomial is in normal form
+      pub answer-normal : IsNormalOver p (length names) r
+      answer-normal = stored.normal
 
-      module _ (r : Polynomial ℕ) (settles : (d : ℕ) (f : Polynomial ℕ) → Stands q n d f x.num → IsStored q n d f r) where
-        stored : IsStored p (length names) meant.numbers.num_degree meant.value.0 r
-        stored =
-            subst (λ (m : ℕ). IsStored p m meant.numbers.num_degree meant.value.0 r) (vars ∙ all)
-            (subst (λ (m : ℕ). IsStored m n meant.numbers.num_degree meant.value.0 r) field (settles meant.numbers.num_degree meant.value.0 num-stands))
-
-        -- the polynomial is in normal form
-        pub answer-normal : IsNormalOver p (length names) r
-        answer-normal = stored.normal
-
-        -- the text denotes it
-        pub answer-denotes : Denotes p names text r
-        unfolding meant
-        answer-denotes = record { tree = whole.tree; derived = whole.derived; accepted = sym fault-found ∙ accepted; same = stored.value }
+      -- the text denotes it
+      pub answer-denotes : Denotes p names text r
+      unfolding meant
+      answer-denotes = record { tree = whole.tree; derived = whole.derived; accepted = sym fault-found ∙ accepted; same = stored.value }

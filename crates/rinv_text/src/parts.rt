@@ -1,6 +1,6 @@
 //! Values of parts of an expression: numerators and denominators, of which nothing is cancelled.
 
-ghost use Rattle.std.specs.Prelude.{◌≡◌, ◌+◌, ◌*◌, ◌<◌, ◌≤◌, ℕ, Some, IfOk};
+ghost use Rattle.std.specs.Prelude.{◌≡◌, ◌+◌, ◌*◌, ◌<◌, ◌≤◌, ◌||◌, ℕ, Some, IfOk};
 ghost use Rattle.rinv_algebra.specs.Residue.{residue_ops};
 ghost use Rattle.rinv_algebra.specs.Monomial.{max_degree};
 ghost use Rattle.rinv_algebra.specs.Polynomial.{Polynomial, product};
@@ -19,6 +19,13 @@ pub struct Parts {
     pub num: Partial,
     pub den: Option<KPoly>,
     pub by_zero: bool,
+}
+
+// Whether one of two holds.
+fn either(left: bool, right: bool) -> bool
+    ensures { result ≡ (left || right) }
+{
+    left || right
 }
 
 // A numerator times a denominator.
@@ -123,7 +130,7 @@ impl Parts {
         requires { (a b z : Meaning) × StandsFor ring.now.coeffs ring.now.vars self a × StandsFor ring.now.coeffs ring.now.vars other b × (within (sum_meaning ring.now.coeffs a b) ≡ Some z) }
         ensures { (a b z : Meaning) → StandsFor ring.now.coeffs ring.now.vars self a → StandsFor ring.now.coeffs ring.now.vars other b → within (sum_meaning ring.now.coeffs a b) ≡ Some z → IfOk result (λ x. StandsFor ring.now.coeffs ring.now.vars x z) }
     {
-        let by_zero = self.by_zero || other.by_zero;
+        let by_zero = either(self.by_zero, other.by_zero);
         let left = crossed(alloc, self.num, &other.den, ring)?;
         let right = crossed(alloc, other.num, &self.den, ring)?;
         let num = left.sum(alloc, right, ring)?;
@@ -141,7 +148,7 @@ impl Parts {
         requires { (a b z : Meaning) × StandsFor ring.now.coeffs ring.now.vars self a × StandsFor ring.now.coeffs ring.now.vars other b × (within (product_meaning ring.now.coeffs a b) ≡ Some z) }
         ensures { (a b z : Meaning) → StandsFor ring.now.coeffs ring.now.vars self a → StandsFor ring.now.coeffs ring.now.vars other b → within (product_meaning ring.now.coeffs a b) ≡ Some z → IfOk result (λ x. StandsFor ring.now.coeffs ring.now.vars x z) }
     {
-        let by_zero = self.by_zero || other.by_zero;
+        let by_zero = either(self.by_zero, other.by_zero);
         let num = self.num.product(alloc, other.num, ring)?;
         let den = joined(alloc, self.den, other.den, ring)?;
         Ok(Parts { num, den, by_zero })
@@ -157,16 +164,13 @@ impl Parts {
         requires { (a b z : Meaning) × StandsFor ring.now.coeffs ring.now.vars self a × StandsFor ring.now.coeffs ring.now.vars other b × (within (quotient_meaning ring.now.coeffs a b) ≡ Some z) }
         ensures { (a b z : Meaning) → StandsFor ring.now.coeffs ring.now.vars self a → StandsFor ring.now.coeffs ring.now.vars other b → within (quotient_meaning ring.now.coeffs a b) ≡ Some z → IfOk result (λ x. StandsFor ring.now.coeffs ring.now.vars x z) }
     {
-        let by_zero = self.by_zero || other.by_zero;
+        let any = either(self.by_zero, other.by_zero);
         let num = crossed(alloc, self.num, &other.den, ring)?;
         let divisor = other.num.settled(alloc, ring)?;
         let is_zero = ring.is_zero(&divisor);
+        let by_zero = either(any, is_zero);
         let den = joined(alloc, self.den, Some(divisor), ring)?;
-        Ok(Parts {
-            num,
-            den,
-            by_zero: by_zero || is_zero,
-        })
+        Ok(Parts { num, den, by_zero })
     }
 
     // The power.

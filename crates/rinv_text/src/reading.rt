@@ -18,7 +18,7 @@ use crate::size::size_of;
 use crate::step::Step;
 use crate::token::Placed;
 use crate::tokens::read_tokens;
-use crate::value::value_of;
+use crate::value::numerator_of;
 use rinv_frac::FracRing;
 use rinv_poly::{KPoly, PolyRing};
 use rinv_ring::Gf;
@@ -45,8 +45,7 @@ fn accepted(
         return Err(TextStop::Fault(fault));
     }
     let field = FracRing::new(PolyRing::new(*field, count));
-    let parts = value_of(alloc, steps, &defs, &field)?;
-    let polynomial = parts.num.settled(alloc, field.base())?;
+    let polynomial = numerator_of(alloc, steps, &defs, &field)?;
     Ok(polynomial)
 }
 

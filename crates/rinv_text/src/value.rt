@@ -3,6 +3,7 @@
 ghost use Rattle.std.specs.Prelude.{◌≡◌, ◌<◌, List, ◌∷◌, length, get_or, reverse, All, IfOk, Some};
 ghost use Rattle.rinv_frac.specs.Fractions.{IsStored};
 ghost use Rattle.rinv_text.specs.Reading.{Definition, undefined};
+ghost use Rattle.rinv_text.specs.Values.{IsStored as IsKept};
 ghost use Rattle.rinv_text.specs.Evaluation.{step, outcome, on_one, on_two};
 ghost use Rattle.rinv_text.specs.Meanings.{Meaning, meanings, named_at, defined_meaning, within, negative_meaning, power_meaning, binary, StandsFor, Piled, MayTake, Takes};
 
@@ -11,7 +12,7 @@ use crate::partial::Partial;
 use crate::parts::Parts;
 use crate::step::Step;
 use rinv_frac::FracRing;
-use rinv_poly::PolyRing;
+use rinv_poly::{KPoly, PolyRing};
 use rinv_ring::{Gf, Ring};
 use std::alloc::{AllocError as NoMemory, Global};
 
@@ -134,7 +135,10 @@ fn value_after(
 {
     match next {
         Step::Number(c) => Parts::number(alloc, c, field.base()),
-        Step::Variable(k) => named(alloc, k, defs, field),
+        Step::Variable(k) => {
+            let value = named(alloc, k, defs, field)?;
+            Ok(value)
+        }
         Step::Negative => Ok(negative(stack, field.base())),
         Step::Power(exponent) => power(alloc, exponent, stack, field.base()),
         _ => joined(alloc, next, stack, field.base()),
@@ -159,4 +163,20 @@ pub fn value_of(
     }
     let whole = take_top(&mut stack);
     Ok(whole)
+}
+
+/// The numerator of the fraction that the steps give, where they give one.
+pub fn numerator_of(
+    alloc: Global,
+    steps: &[Step],
+    defs: &Defs,
+    field: &FracRing,
+) -> Result<KPoly, NoMemory>
+    requires may { (g : Meaning) × (outcome (meanings field.now.base.coeffs (named_at field.now.base.coeffs field.now.base.vars defs.now)) steps.now ≡ Some g) }
+    requires values { All (λ d. IsStored field.now.base.coeffs field.now.base.vars d.value) defs.now }
+    ensures { (g : Meaning) → outcome (meanings field.now.base.coeffs (named_at field.now.base.coeffs field.now.base.vars defs.now)) steps.now ≡ Some g → IfOk result (IsKept field.now.base.coeffs field.now.base.vars g.numbers.num_degree g.value.0) }
+{
+    let parts = value_of(alloc, steps, defs, field)?;
+    let numerator = parts.num.settled(alloc, field.base())?;
+    Ok(numerator)
 }

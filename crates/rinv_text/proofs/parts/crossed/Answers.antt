@@ -11,10 +11,10 @@ returns-in-None c = λ d e f g x h. over-alone c.args.ring.now.coeffs c.args.rin
 pub product-requires-clause-fits : goal.product-requires-clause-fits
 product-requires-clause-fits c =
     let m = c.requires in
-    let stored = some-over c.args.ring.now.coeffs c.args.ring.now.vars m.right m.g c.in-Some.den.now c.args.den.now c.in-Some.is m.over in
-    (m.left, m.right, m.stands.low, (c.in_ok-factor.ensures.value m.right m.g (subst (λ (r : Polynomial ℕ). IsStored c.args.ring.now.coeffs c.args.ring.now.vars m.right m.g r) (sym c.in_ok-den.ensures) stored)).low, m.low)
+    let stored = some-over c.args.ring.now.coeffs c.args.ring.now.vars m.right m.g c.in-Some.den c.args.den.now c.in-Some.is m.over in
+    (m.left, m.right, m.stands.low, (c.in_ok-factor-in-Some.ensures.value m.right m.g (subst (λ (r : Polynomial ℕ). IsStored c.args.ring.now.coeffs c.args.ring.now.vars m.right m.g r) (sym c.in_ok-den-in-Some.ensures) stored)).low, m.low)
 
 pub returns-in_ok-crossed-in-Some : goal.returns-in_ok-crossed-in-Some
 returns-in_ok-crossed-in-Some c = λ d e f g x h.
-    let stored = some-over c.args.ring.now.coeffs c.args.ring.now.vars e g c.in-Some.den.now c.args.den.now c.in-Some.is h in
-    c.in_ok-crossed-in-Some.ensures d e f g x (c.in_ok-factor.ensures.value e g (subst (λ (r : Polynomial ℕ). IsStored c.args.ring.now.coeffs c.args.ring.now.vars e g r) (sym c.in_ok-den.ensures) stored))
+    let stored = some-over c.args.ring.now.coeffs c.args.ring.now.vars e g c.in-Some.den c.args.den.now c.in-Some.is h in
+    c.in_ok-crossed-in-Some.ensures d e f g x (c.in_ok-factor-in-Some.ensures.value e g (subst (λ (r : Polynomial ℕ). IsStored c.args.ring.now.coeffs c.args.ring.now.vars e g r) (sym c.in_ok-den-in-Some.ensures) stored))

@@ -1,4 +1,4 @@
-use Rattle.std.proofs.Common.{Bool, ◌||◌, ap₂}
+use Rattle.std.proofs.Common.{Bool, ◌||◌, ap₂, ◌∙◌}
 use Rattle.rinv_text.specs.Formal.{formal_product}
 use Rattle.rinv_text.specs.Meanings.{product_meaning}
 use Rattle.rinv_text.proofs.Crossings.{num-low, den-low}
@@ -24,5 +24,5 @@ returns c = λ a b z sa sb e.
     (record {
       num = c.in_ok-num.ensures a.numbers.num_degree b.numbers.num_degree a.value.0 b.value.0 sa.num sb.num;
       den = c.in_ok-den.ensures a.numbers.den_degree b.numbers.den_degree a.value.1 b.value.1 sa.den sb.den;
-      by_zero = ap₂ (λ (x y : Bool). x || y) sa.by_zero sb.by_zero;
+      by_zero = c.either-by_zero.ensures ∙ ap₂ (λ (x y : Bool). x || y) sa.by_zero sb.by_zero;
     })

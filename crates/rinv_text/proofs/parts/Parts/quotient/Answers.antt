@@ -33,5 +33,5 @@ returns c = λ a b z sa sb e.
     (record {
       num = c.in_ok-num.ensures a.numbers.num_degree b.numbers.den_degree a.value.0 b.value.1 sa.num sb.den;
       den = c.in_ok-den.ensures a.numbers.den_degree b.numbers.num_degree a.value.1 b.value.0 sa.den divisor;
-      by_zero = ap₂ (λ (x y : Bool). x || y) (ap₂ (λ (x y : Bool). x || y) sa.by_zero sb.by_zero) (c.is_zero-is_zero.ensures ∙ is_zero-same (residue_ops c.args.ring.now.coeffs) (residue_laws c.args.ring.now.coeffs) _ b.value.0 divisor.value);
+      by_zero = c.either-by_zero.ensures ∙ ap₂ (λ (x y : Bool). x || y) (c.either-any.ensures ∙ ap₂ (λ (x y : Bool). x || y) sa.by_zero sb.by_zero) (c.is_zero-is_zero.ensures ∙ is_zero-same (residue_ops c.args.ring.now.coeffs) (residue_laws c.args.ring.now.coeffs) _ b.value.0 divisor.value);
     })

@@ -1,4 +1,4 @@
-use Rattle.std.proofs.Common.{◌+◌, Bool, ◌||◌, ap₂}
+use Rattle.std.proofs.Common.{◌+◌, Bool, ◌||◌, ap₂, ◌∙◌}
 use Rattle.rinv_algebra.specs.Residue.{residue_ops}
 use Rattle.rinv_algebra.specs.Polynomial.{product}
 use Rattle.rinv_text.specs.Formal.{formal_sum}
@@ -62,5 +62,5 @@ returns c = λ a b z sa sb e.
           (c.in_ok-left.ensures a.numbers.num_degree b.numbers.den_degree a.value.0 b.value.1 sa.num sb.den)
           (c.in_ok-right.ensures b.numbers.num_degree a.numbers.den_degree b.value.0 a.value.1 sb.num sa.den);
       den = c.in_ok-den.ensures a.numbers.den_degree b.numbers.den_degree a.value.1 b.value.1 sa.den sb.den;
-      by_zero = ap₂ (λ (x y : Bool). x || y) sa.by_zero sb.by_zero;
+      by_zero = c.either-by_zero.ensures ∙ ap₂ (λ (x y : Bool). x || y) sa.by_zero sb.by_zero;
     })
