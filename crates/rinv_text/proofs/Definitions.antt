@@ -1,10 +1,12 @@
 -- Lists of abbreviations.
 --   none-defined, one-more     they stay apart and bounded
 --   defined-stands             what is kept of one
-use Rattle.std.proofs.Common.{◌≡◌, ℕ, List, [], ◌∷◌, ◌++◌, map, All, Bool, true, false, ◌||◌, refl, sym, subst, ◌∙◌, Some, bytes_eq, inl, inr, true≢false}
+--   name-absent, names-more, names-all    their names, one by one
+use Rattle.std.proofs.Common.{◌≡◌, ℕ, ◌+◌, ◌<◌, ◌≤◌, length, get_or, take, take_all, arith, ap, ap₂, List, [], ◌∷◌, ◌++◌, map, All, Bool, true, false, ◌||◌, refl, sym, subst, ◌∙◌, Some, bytes_eq, inl, inr, true≢false}
 use Rattle.std.specs.List.{list_any, IsDistinct, AllByRecursion}
 use Rattle.std.proofs.lemmas.Bool.{cases_Bool}
 use Rattle.std.proofs.lemmas.Slice.Eq.{bytes_eq-Decides}
+use Rattle.std.proofs.lemmas.List.{get_or-map, length-map, take_more}
 use Rattle.std.proofs.lemmas.List.Elements.{All-nil, All-push}
 use Rattle.rinv_algebra.specs.Residue.{residue_ops}
 use Rattle.rinv_algebra.specs.Polynomial.{Polynomial}
@@ -14,6 +16,7 @@ use Rattle.rinv_frac.specs.Fractions.{IsStored}
 use Rattle.rinv_frac.proofs.Stored.{stored}
 use Rattle.rinv_text.specs.declared.partial.Partial.{Partial}
 use Rattle.rinv_text.specs.Reading.{Definition, IsBounded, AreDefinitions}
+use Rattle.rinv_text.proofs.Absent.{Absent, Absent-earlier}
 use Rattle.rinv_text.specs.Values.{IsStored as IsKept, Stands}
 use Rattle.rinv_text.specs.Meanings.{defined_meaning, StandsFor}
 
@@ -57,3 +60,26 @@ defined-stands p v d num den kept s low en ed stands = record {
   den = subst (λ r. IsKept p v d.formal.den_degree d.value.1 r) (sym ed) (record { normal = (stored p v d.value s).denominator; low = low.denominator; value = same-refl (residue_ops p) (residue_laws p) d.value.1 });
   by_zero = refl;
 }
+
+-- ---- their names, one by one
+
+module _ (defs : List Definition) (k : ℕ) (d : Definition) (w : List ℕ) (within : k < length defs) (is : d ≡ get_or defs k d) (named : w ≡ d.name) where
+  abbrev names : List (List ℕ)
+  names = map (λ (e : Definition). e.name) defs
+
+  place : k < length names
+  place = omega (arith, within, length-map defs (λ (e : Definition). e.name))
+
+  word : w ≡ get_or names k w
+  word = named ∙ ap (λ (e : Definition). e.name) is ∙ sym (get_or-map (λ (e : Definition). e.name) defs k d w within)
+
+  -- the next stands nowhere before
+  pub name-absent : (text : List ℕ) (so_far : List (List ℕ)) → text ≡ w → so_far ≡ take k names → IsDistinct bytes_eq names → Absent text so_far
+  name-absent text so_far copy are distinct = ap₂ (λ (v : List ℕ) (vs : List (List ℕ)). list_any (bytes_eq v) vs) (copy ∙ word) are ∙ Absent-earlier names k w distinct place
+
+  -- and is one more
+  pub names-more : (text : List ℕ) (so_far next : List (List ℕ)) → text ≡ w → so_far ≡ take k names → next ≡ so_far ++ text ∷ [] → next ≡ take (k + 1) names
+  names-more text so_far next copy are pushed = pushed ∙ ap₂ (λ (vs : List (List ℕ)) (v : List ℕ). vs ++ v ∷ []) are (copy ∙ word) ∙ sym (take_more names k w place)
+
+pub names-all : (defs : List Definition) (k : ℕ) (so_far : List (List ℕ)) → so_far ≡ take k (map (λ d. d.name) defs) → length defs ≤ k → so_far ≡ map (λ d. d.name) defs
+names-all defs k so_far are all = are ∙ take_all k (map (λ d. d.name) defs) (omega (arith, all, length-map defs (λ (e : Definition). e.name)))

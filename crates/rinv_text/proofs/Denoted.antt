@@ -56,6 +56,16 @@ accepted-low_by of_name known ts t none = (
   high-none (is_past_limit 0 (kinds ts)) (is_high of_name t) (is_long of_name t) (excess-none ts (first_unknown known ts) (excess of_name false (kinds ts) t) none),
 )
 
+long-none : (past high long : Bool) → (if past then Some Limit else if high then Some FormalDegree else if long then Some FormalTerms else None) ≡ None → long ≡ false
+long-none true high long e = cc
+long-none false true long e = cc
+long-none false false true e = cc
+long-none false false false e = refl
+
+-- and the terms few
+pub accepted-few_by : (of_name : List ℕ → Formal) (known : List (List ℕ)) (ts : List Placed) (t : Tree) → refusal_by ts (first_unknown known ts) (excess of_name false (kinds ts) t) ≡ None → is_long of_name t ≡ false
+accepted-few_by of_name known ts t none = long-none (is_past_limit 0 (kinds ts)) (is_high of_name t) (is_long of_name t) (excess-none ts (first_unknown known ts) (excess of_name false (kinds ts) t) none)
+
 pub accepted-low : (names : List (List ℕ)) (ts : List Placed) (t : Tree) → refusal names ts t ≡ None → (first_unknown names ts ≡ None) × (is_high (λ w. of_variable) t ≡ false)
 unfolding refusal
 accepted-low names ts t none = accepted-low_by (λ w. of_variable) names ts t none
@@ -63,7 +73,7 @@ accepted-low names ts t none = accepted-low_by (λ w. of_variable) names ts t no
 -- ---- what the reader sees
 
 module _ (p : ℕ) (known : List (List ℕ)) where
-  first-seen : (ts : List Placed) → first_place (map (seen (literal_of p) (place_of known)) ts) ≡ start ts
+  pub first-seen : (ts : List Placed) → first_place (map (seen (literal_of p) (place_of known)) ts) ≡ start ts
   first-seen [] = refl
   first-seen (t ∷ ts) = refl
 

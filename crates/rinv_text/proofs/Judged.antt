@@ -23,7 +23,7 @@ abbrev many : ℕ
 many = max_formal_terms + 1
 
 -- four numbers that agree
-numbers : (a b c d a' b' c' d' : ℕ) → a ≡ a' → b ≡ b' → c ≡ c' → d ≡ d' → ◌≡◌ {A = Formal} (record { num_degree = a; den_degree = b; num_terms = c; den_terms = d }) (record { num_degree = a'; den_degree = b'; num_terms = c'; den_terms = d' })
+pub numbers : (a b c d a' b' c' d' : ℕ) → a ≡ a' → b ≡ b' → c ≡ c' → d ≡ d' → ◌≡◌ {A = Formal} (record { num_degree = a; den_degree = b; num_terms = c; den_terms = d }) (record { num_degree = a'; den_degree = b'; num_terms = c'; den_terms = d' })
 numbers a b c d a' b' c' d' e f g h = cc
 
 -- ---- what is cut off before is cut off after

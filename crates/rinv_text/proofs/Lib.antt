@@ -48,4 +48,8 @@ pub mod PrintedPhrases
 pub mod PrintedTerms
 pub mod PrintedOrder
 pub mod PrintedSums
+pub mod Agreeing
+pub mod PrintedFractions
+pub mod FractionAnswers
+pub mod KeptFractions
 pub mod SystemParts

@@ -1,5 +1,5 @@
 -- The refusals that tokens alone show, as the reader sees tokens.
-use Rattle.std.specs.Prelude.{◌≡◌, map, Ok, ℕ, ◌+◌, ◌-◌, List, [], ◌∷◌, Bool, false, ◌||◌, nat_le, if◌then◌else◌, Option, Some, None}
+use Rattle.std.specs.Prelude.{◌≡◌, map, length, Ok, ℕ, ◌+◌, ◌-◌, List, [], ◌∷◌, Bool, false, ◌||◌, nat_le, if◌then◌else◌, Option, Some, None}
 use Rattle.rinv_text.specs.declared.token.Kind.{Kind}
 use Rattle.rinv_text.specs.declared.token.Kind.TheVariants.{Numeral, Word, Opening, Closing}
 use Rattle.rinv_text.specs.declared.token.Placed.{Placed}
@@ -9,7 +9,7 @@ use Rattle.rinv_text.specs.declared.fault.TextCode.{TextCode}
 use Rattle.rinv_text.specs.declared.fault.TextCode.TheVariants.{Name, Limit, FormalDegree, FormalTerms}
 use Rattle.rinv_text.specs.declared.step.Step.{Step}
 use Rattle.rinv_text.specs.Tokens.{Placed as Token}
-use Rattle.rinv_text.specs.Reading.{place_of}
+use Rattle.rinv_text.specs.Reading.{Definition, place_of, known_names}
 use Rattle.rinv_text.specs.Images.{literal_of, seen}
 use Rattle.rinv_text.specs.Automaton.{initial, parsed}
 use Rattle.rinv_text.specs.Stops.{max_nesting}
@@ -61,4 +61,15 @@ fault_of count ts size = fault_by ts (first_unknown_word count ts) (excess_of ts
 -- the reader has these tokens, sees them so, and has these steps of their expression
 pub record IsRead (p : ℕ) (known : List (List ℕ)) (tokens : List Token) (end : ℕ) (ts : List Placed) (ss : List Step) : Type 0 where
   pub are : ts ≡ map (seen (literal_of p) (place_of known)) tokens
+  pub steps : parsed end initial ts ≡ Ok ss
+
+-- the reader sees these tokens of a fraction so, where the names are those of v variables and of abbreviations
+pub record AreSeen (p v : ℕ) (names : List (List ℕ)) (defs : List Definition) (known : List (List ℕ)) (ps : List Token) (ts : List Placed) : Type 0 where
+  pub are_known : known ≡ known_names names defs
+  pub many : length names ≡ v
+  pub are : ts ≡ map (seen (literal_of p) (place_of known)) ps
+
+-- and has these steps of their expression
+pub record IsFractionRead (p v : ℕ) (names : List (List ℕ)) (defs : List Definition) (known : List (List ℕ)) (ps : List Token) (end : ℕ) (ts : List Placed) (ss : List Step) : Type 0 where
+  pub tokens : AreSeen p v names defs known ps ts
   pub steps : parsed end initial ts ≡ Ok ss

@@ -1,11 +1,12 @@
 //! Abbreviations.
 
-ghost use Rattle.std.specs.Prelude.{◌≡◌, ◌≤◌, [], ◌∷◌, ◌++◌, string_bytes, bytes_eq, false, All, OnOk};
-ghost use Rattle.std.specs.List.{list_any};
+ghost use Rattle.std.specs.Prelude.{◌≡◌, ◌≤◌, [], ◌∷◌, ◌++◌, map, string_bytes, bytes_eq, false, All, IfOk, OnOk};
+ghost use Rattle.std.specs.List.{list_any, IsDistinct};
 ghost use Rattle.rinv_algebra.specs.Monomial.{total_degree};
 ghost use Rattle.rinv_text.specs.Reading.{Definition};
 
 use crate::formal::Formal;
+use crate::names::Names;
 use rinv_frac::Frac;
 use std::alloc::{AllocError as NoMemory, Global};
 use std::marker::Model;
@@ -46,7 +47,7 @@ impl Model for Defs {
 }
 
 impl Defs {
-    ghost use Rattle.std.specs.Prelude.{◌≡◌, ◌≤◌, [], ◌∷◌, ◌++◌, string_bytes, bytes_eq, false, All, OnOk};
+    ghost use Rattle.std.specs.Prelude.{◌≡◌, ◌≤◌, [], ◌∷◌, ◌++◌, map, string_bytes, bytes_eq, false, All, IfOk, OnOk};
     ghost use Rattle.std.specs.List.{list_any};
     ghost use Rattle.rinv_algebra.specs.Monomial.{total_degree};
     ghost use Rattle.rinv_text.specs.Reading.{Definition, AreDefinitions};
@@ -75,6 +76,14 @@ impl Defs {
         Ok(())
     }
 
+    // Their names.
+    pub(crate) fn names(&self, alloc: Global) -> Result<Names, NoMemory>
+        ensures { IfOk result (λ n. n ≡ map (λ d. d.name) self.now) }
+    {
+        let names = names_of(alloc, self.list())?;
+        Ok(names)
+    }
+
     // The abbreviations.
     pub(crate) fn list(&self) -> &[Abbreviation]
         ensures value { result.now ≡ self.now }
@@ -82,4 +91,28 @@ impl Defs {
     {
         &self.list
     }
+}
+
+impl Abbreviation {
+    // Its name.
+    fn text(&self) -> &str
+        ensures { result.now ≡ self.now.name }
+    {
+        self.name.as_str()
+    }
+}
+
+// The names of abbreviations, no two of which have one.
+fn names_of(alloc: Global, list: &[Abbreviation]) -> Result<Names, NoMemory>
+    requires { IsDistinct bytes_eq (map (λ d. d.name) list.now) }
+    ensures { IfOk result (λ n. n ≡ map (λ d. d.name) list.now) }
+{
+    let mut names = Names::empty(alloc);
+    'names: for k in 0..list.len() {
+        let abbreviation = &list[k];
+        let text = abbreviation.text();
+        let name = String::from_str(alloc, text)?;
+        names.push(name)?;
+    }
+    Ok(names)
 }
