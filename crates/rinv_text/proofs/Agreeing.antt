@@ -2,14 +2,14 @@
 --   value-agrees, formal-agrees       where the names of an expression stand for the same
 --   high-agrees, long-agrees          so its limits are the same
 
-use Rattle.std.proofs.Common.{◌≡◌, ℕ, List, Bool, ◌||◌, nat_lt, refl, ap, ap₂}
+use Rattle.std.proofs.Common.{◌≡◌, ℕ, List, Bool, ◌||◌, refl, ap, ap₂}
 use Rattle.rinv_algebra.specs.Residue.{residue_ops}
-use Rattle.rinv_algebra.specs.Polynomial.{opposite, is_zero}
+use Rattle.rinv_algebra.specs.Polynomial.{opposite}
 use Rattle.rinv_algebra.specs.Fraction.{Fraction, fraction_sum, fraction_product}
 use Rattle.rinv_text.specs.declared.formal.Formal.{Formal}
 use Rattle.rinv_text.specs.Grammar.{Tree, number, name, negative, sum, difference, product, quotient, power}
 use Rattle.rinv_text.specs.Formal.{formal, formal_sum, formal_product, turned, formal_power, some_part, has_high_exponent, is_above, has_more, is_high, is_long}
-use Rattle.rinv_text.specs.Reading.{value, to_the, divides_by_zero}
+use Rattle.rinv_text.specs.Reading.{value, to_the}
 use Rattle.rinv_text.proofs.Words.{EachName}
 
 module _ (p : ℕ) (m k : List ℕ → Fraction ℕ) where

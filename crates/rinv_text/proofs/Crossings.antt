@@ -3,10 +3,10 @@
 --   over-both                               of two that are kept
 --   over-power                              its powers
 --   ...-low                                 degrees that may be multiplied
-use Rattle.std.proofs.Common.{◌≡◌, ℕ, zero, suc, ◌+◌, ◌*◌, ◌≤◌, max, List, Bool, true, false, ◌||◌, nat_lt, refl, sym, ap, ap₂, subst, ◌∙◌, arith, Option, Some, None, IsTrue}
+use Rattle.std.proofs.Common.{◌≡◌, ℕ, zero, suc, ◌+◌, ◌≤◌, max, List, false, subst, arith, Option, Some, None}
 use Rattle.std.proofs.lemmas.Bool.Decides.{nat_tests}
 use Rattle.rinv_algebra.specs.Ring.{RingOps, RingLaws, IsSame}
-use Rattle.rinv_algebra.specs.Residue.{is_listed, residue_ops}
+use Rattle.rinv_algebra.specs.Residue.{residue_ops}
 use Rattle.rinv_algebra.specs.Monomial.{max_degree}
 use Rattle.rinv_algebra.specs.Polynomial.{Polynomial, poly_ops, product, constant}
 use Rattle.rinv_algebra.proofs.RingFacts as facts

@@ -2,7 +2,7 @@
 --   none-defined, one-more     they stay apart and bounded
 --   defined-stands             what is kept of one
 --   name-absent, names-more, names-all    their names, one by one
-use Rattle.std.proofs.Common.{◌≡◌, ℕ, ◌+◌, ◌<◌, ◌≤◌, length, get_or, take, take_all, arith, ap, ap₂, List, [], ◌∷◌, ◌++◌, map, All, Bool, true, false, ◌||◌, refl, sym, subst, ◌∙◌, Some, bytes_eq, inl, inr, true≢false}
+use Rattle.std.proofs.Common.{◌≡◌, ℕ, ◌+◌, ◌<◌, ◌≤◌, length, get_or, take, take_all, arith, ap, ap₂, List, [], ◌∷◌, ◌++◌, map, Bool, true, false, ◌||◌, refl, sym, subst, ◌∙◌, Some, bytes_eq, inl, inr, true≢false}
 use Rattle.std.specs.List.{list_any, IsDistinct, AllByRecursion}
 use Rattle.std.proofs.lemmas.Bool.{cases_Bool}
 use Rattle.std.proofs.lemmas.Slice.Eq.{bytes_eq-Decides}

@@ -17,7 +17,7 @@ use Rattle.rinv_text.specs.Tokens.{Placed, kinds, tokens}
 use Rattle.rinv_text.specs.Grammar.{Tree}
 use Rattle.rinv_text.specs.Formal.{of_variable, formal, is_high, is_long}
 use Rattle.rinv_text.specs.Reading.{Definition, place_of, formal_at, variable_named, value, divides_by_zero}
-use Rattle.rinv_text.specs.Stops.{AreExpression, AreRefused, IsExpression, is_past_limit, first_unknown, start, excess, refusal_by, refusal, Denotes, IsRefused, malformed, refused}
+use Rattle.rinv_text.specs.Stops.{AreExpression, AreRefused, is_past_limit, first_unknown, start, excess, refusal_by, refusal, Denotes, IsRefused, malformed, refused}
 use Rattle.rinv_text.specs.Images.{literal_of, seen, steps_of}
 use Rattle.rinv_text.specs.Automaton.{initial, parsed}
 use Rattle.rinv_text.specs.Evaluation.{outcome}
@@ -28,7 +28,7 @@ use Rattle.rinv_text.specs.Values.{IsNormalOver, IsStored}
 use Rattle.rinv_text.specs.Meanings.{Meaning, meanings, named_at}
 use Rattle.rinv_text.proofs.Malformed.{parsed-ok, parsed-err, stuck-malformed}
 use Rattle.rinv_text.proofs.Postfix.{outcome-steps}
-use Rattle.rinv_text.proofs.Judged.{size_of, sizes-result}
+use Rattle.rinv_text.proofs.Judged.{sizes-result}
 use Rattle.rinv_text.proofs.Words.{derived-names, EachName, names-weaker}
 use Rattle.rinv_text.proofs.Seen.{unknown-seen, exceeds-seen}
 use Rattle.rinv_text.proofs.Read.{HasPlace, HasMeaning, words-known, meanings-result, variable-named}

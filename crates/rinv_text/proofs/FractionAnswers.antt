@@ -2,18 +2,16 @@
 --   refusal-first, refusal-last      a division by zero is refused last
 --   den-nonzero                      where nothing is divided by zero, no denominator is zero
 --   answer-...                       the answers of the reader
-use Rattle.std.proofs.Common.{◌≡◌, ℕ, zero, suc, ◌+◌, ◌-◌, ◌<◌, ◌≤◌, min, List, [], ◌∷◌, ◌++◌, length, get_or, map, All, Bool, true, false, not, ◌||◌, nat_le, nat_lt, if◌then◌else◌, refl, sym, ap, ap₂, subst, ◌∙◌, arith, IsTrue, IsFalse, Option, Some, None, Ok, Err, bytes_eq, length-append}
+use Rattle.std.proofs.Common.{◌≡◌, ℕ, zero, suc, ◌+◌, ◌-◌, ◌<◌, ◌≤◌, min, List, length, get_or, map, All, Bool, true, false, ◌||◌, nat_lt, if◌then◌else◌, refl, sym, ap, ap₂, ◌∙◌, arith, IsTrue, Option, Some, None, length-append}
 use Rattle.std.proofs.lemmas.List.{length-map, get_or_default}
 use Rattle.std.proofs.lemmas.Bool.Decides.{nat_tests}
-use Rattle.rinv_algebra.specs.Ring.{RingOps, RingLaws, IsSame}
+use Rattle.rinv_algebra.specs.Ring.{RingOps}
 use Rattle.rinv_algebra.specs.Residue.{is_listed, residue_ops}
-use Rattle.rinv_algebra.specs.Monomial.{total_degree}
-use Rattle.rinv_algebra.specs.Polynomial.{Polynomial, poly_ops, product, constant, variable, is_zero, degree, has_monomial}
+use Rattle.rinv_algebra.specs.Polynomial.{Polynomial, variable, is_zero, degree, has_monomial}
 use Rattle.rinv_algebra.specs.Fraction.{Fraction, over_one}
 use Rattle.rinv_algebra.proofs.ResidueLaws.{residue_laws}
 use Rattle.rinv_algebra.proofs.ResidueField.{residue_field_laws}
-use Rattle.rinv_algebra.proofs.Degrees.{is_zero-same, degree-above}
-use Rattle.rinv_poly.proofs.Degrees.{degree-terms}
+use Rattle.rinv_algebra.proofs.Degrees.{degree-above}
 use Rattle.rinv_poly.proofs.Forms.{ordered-from_normal}
 use Rattle.rinv_poly.proofs.NormalFacts.{has-term}
 use Rattle.rinv_frac.specs.Fractions.{IsStored}
@@ -23,24 +21,21 @@ use Rattle.rinv_frac.proofs.Sums.{product-nonzero}
 use Rattle.rinv_frac.proofs.CancelledValues.{one_nonzero}
 use Rattle.rinv_text.specs.declared.formal.Formal.{Formal}
 use Rattle.rinv_text.specs.declared.size.Size.{Size}
-use Rattle.rinv_text.specs.declared.parts.Parts.{Parts}
 use Rattle.rinv_text.specs.declared.step.Step.{Step}
 use Rattle.rinv_text.specs.declared.token.Placed.{Placed as Seen}
 use Rattle.rinv_text.specs.declared.fault.TextFault.{TextFault}
-use Rattle.rinv_text.specs.declared.fault.TextCode.{TextCode}
 use Rattle.rinv_text.specs.declared.fault.TextCode.TheVariants.{Limit, FormalDegree, FormalTerms, ZeroDenominator}
 use Rattle.rinv_text.specs.Tokens.{Placed, kinds}
 use Rattle.rinv_text.specs.Grammar.{Tree, number, name, negative, sum, difference, product as times, quotient, power}
 use Rattle.rinv_text.specs.Formal.{of_variable, formal, some_part, is_above, has_more, is_high, is_long}
-use Rattle.rinv_text.specs.Reading.{Definition, undefined, place_of, known_names, meaning_at, formal_at, meaning, formal_of, to_the, value, divides_by_zero}
-use Rattle.rinv_text.specs.Stops.{AreExpression, AreFraction, AreRefused, is_past_limit, first_unknown, start, excess, refusal_by, fraction_refusal, refused}
-use Rattle.rinv_text.specs.Images.{literal_of, seen, steps_of}
-use Rattle.rinv_text.specs.Automaton.{initial, parsed}
+use Rattle.rinv_text.specs.Reading.{Definition, undefined, place_of, meaning_at, formal_at, meaning, formal_of, to_the, value, divides_by_zero}
+use Rattle.rinv_text.specs.Stops.{AreFraction, AreRefused, is_past_limit, first_unknown, start, excess, refusal_by, fraction_refusal, refused}
+use Rattle.rinv_text.specs.Images.{literal_of}
 use Rattle.rinv_text.specs.Evaluation.{outcome}
 use Rattle.rinv_text.specs.Sizes.{capped, sizes}
-use Rattle.rinv_text.specs.Sightings.{first_unknown_word, exceeds, first_place, size_excess, excess_of, fault_by, fault_of, IsRead, IsFractionRead}
+use Rattle.rinv_text.specs.Sightings.{first_unknown_word, exceeds, first_place, fault_by, fault_of, IsFractionRead}
 use Rattle.rinv_text.specs.Values.{IsNormalOver, IsLow}
-use Rattle.rinv_text.specs.Meanings.{Meaning, meanings, variable_meaning, defined_meaning, named_at, StandsFor}
+use Rattle.rinv_text.specs.Meanings.{Meaning, meanings, variable_meaning, defined_meaning, named_at}
 use Rattle.rinv_text.proofs.Postfix.{outcome-steps}
 use Rattle.rinv_text.proofs.Judged.{numbers, size_of, sizes-result, degrees-low, terms-few}
 use Rattle.rinv_text.proofs.Words.{EachName, derived-names, names-weaker}

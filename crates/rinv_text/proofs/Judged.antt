@@ -2,14 +2,14 @@
 --   sizes-result     the size of an expression
 --   degrees-low      the formal degrees of an expression that is not too high
 --   terms-few        the formal terms of one that is not too long
-use Rattle.std.proofs.Common.{◌≡◌, ℕ, ◌+◌, ◌*◌, ◌^◌, ◌<◌, ◌≤◌, min, max, List, Bool, true, false, ◌||◌, nat_lt, refl, sym, ap, ap₂, ◌∙◌, arith, inl, inr, Option, Some, true≢false}
+use Rattle.std.proofs.Common.{◌≡◌, ℕ, ◌+◌, ◌*◌, ◌<◌, min, max, List, Bool, true, false, ◌||◌, nat_lt, refl, sym, ap, ap₂, ◌∙◌, arith, inl, inr, Option, Some, true≢false}
 use Rattle.std.specs.Prelude.{option_and_then}
 use Rattle.std.proofs.lemmas.Bool.{cases_Bool}
 use Rattle.std.proofs.lemmas.Bool.Decides.{nat_tests}
 use Rattle.rinv_text.specs.declared.formal.Formal.{Formal}
 use Rattle.rinv_text.specs.declared.size.Size.{Size}
 use Rattle.rinv_text.specs.Grammar.{Tree, number, name, negative, sum, difference, product, quotient, power}
-use Rattle.rinv_text.specs.Formal.{formal, of_number, formal_sum, formal_product, turned, formal_power, some_part, has_high_exponent, is_above, has_more, is_high, is_long, max_formal_degree, max_formal_terms}
+use Rattle.rinv_text.specs.Formal.{formal, formal_sum, formal_product, turned, formal_power, some_part, has_high_exponent, is_above, has_more, is_high, is_long, max_formal_degree, max_formal_terms}
 use Rattle.rinv_text.specs.Images.{literal_of, exponent_of}
 use Rattle.rinv_text.specs.Sizes.{capped, judged, sizes}
 use Rattle.rinv_text.proofs.Caps.{capped-product, capped-power, great-power, great-multiple}

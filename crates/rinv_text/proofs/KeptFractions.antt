@@ -3,9 +3,9 @@
 --   never-zero          the denominator is not zero
 --   cancelled-as, low-as    what is cancelled
 --   den-vars            the monomials of a denominator
-use Rattle.std.proofs.Common.{◌≡◌, length, All, nat_lt, ℕ, ◌*◌, ◌≤◌, Bool, true, false, refl, sym, ap, subst, ◌∙◌, arith, IsTrue, Option, Some, None}
-use Rattle.rinv_algebra.specs.Ring.{RingOps, RingLaws, IsSame}
-use Rattle.rinv_algebra.specs.Residue.{is_listed, residue_ops}
+use Rattle.std.proofs.Common.{◌≡◌, length, All, nat_lt, ℕ, ◌*◌, ◌≤◌, false, sym, ap, subst, ◌∙◌, arith, Option, None}
+use Rattle.rinv_algebra.specs.Ring.{RingOps, IsSame}
+use Rattle.rinv_algebra.specs.Residue.{residue_ops}
 use Rattle.rinv_algebra.specs.Polynomial.{Polynomial, poly_ops, constant, is_zero, degree}
 use Rattle.rinv_algebra.specs.Fraction.{Fraction}
 use Rattle.rinv_algebra.proofs.RingFacts as facts
@@ -17,7 +17,7 @@ use Rattle.rinv_poly.proofs.Degrees.{degree-terms}
 use Rattle.rinv_poly.proofs.Forms.{ordered-from_normal}
 use Rattle.rinv_frac.specs.Fractions.{IsStored as IsStoredFraction}
 use Rattle.rinv_frac.proofs.Stored.{stored}
-use Rattle.rinv_frac.specs.Cancelling.{IsSamePair, IsCancelled}
+use Rattle.rinv_frac.specs.Cancelling.{IsCancelled}
 use Rattle.rinv_frac.proofs.CancelledValues.{cancelled-same}
 use Rattle.rinv_text.specs.Values.{IsNormalOver, IsLow, IsStored, IsOver}
 use Rattle.rinv_text.proofs.Low.{low-weaker}

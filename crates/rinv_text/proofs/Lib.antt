@@ -49,6 +49,7 @@ pub mod PrintedTerms
 pub mod PrintedOrder
 pub mod PrintedSums
 pub mod Agreeing
+pub mod PlainTokens
 pub mod PrintedFractions
 pub mod FractionAnswers
 pub mod KeptFractions

@@ -1,5 +1,5 @@
 -- The formal numbers of an expression, as steps compute them.
-use Rattle.std.specs.Prelude.{ℕ, ◌+◌, ◌≤◌, min, Bool, false, ◌||◌, nat_lt, Option, Some}
+use Rattle.std.specs.Prelude.{ℕ, ◌+◌, ◌≤◌, min, Bool, false, ◌||◌, nat_lt, Some}
 use Rattle.rinv_text.specs.declared.formal.Formal.{Formal}
 use Rattle.rinv_text.specs.declared.size.Size.{Size}
 use Rattle.rinv_text.specs.Formal.{of_number, formal_sum, formal_product, turned, formal_power, is_above, has_more, max_formal_degree, max_formal_terms}

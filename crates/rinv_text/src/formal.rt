@@ -4,9 +4,11 @@ ghost use Rattle.std.specs.Prelude.{◌≡◌};
 ghost use Rattle.rinv_text.specs.Formal.{of_number, of_variable, formal_sum, formal_product, turned, is_above, has_more};
 ghost use Rattle.rinv_text.specs.Sizes.{IsCapped, capped};
 
-const MAX_DEGREE: u64 = 64;
+// The greatest formal degree, and the greatest exponent.
+pub(crate) const MAX_DEGREE: u64 = 64;
 
-const MAX_TERMS: u64 = 1_000_000;
+// The greatest number of formal terms.
+pub(crate) const MAX_TERMS: u64 = 1_000_000;
 
 /// Degrees and numbers of terms of the numerator and the denominator of an expression, before anything is multiplied out.
 #[derive(Clone, Copy, Debug, PartialEq, Eq)]
@@ -18,7 +20,7 @@ pub struct Formal {
 }
 
 // The numbers of a number.
-pub const NUMBER: Formal = Formal {
+pub(crate) const NUMBER: Formal = Formal {
     num_degree: 0,
     den_degree: 0,
     num_terms: 1,
@@ -26,7 +28,7 @@ pub const NUMBER: Formal = Formal {
 };
 
 // Those of a variable.
-pub const VARIABLE: Formal = Formal {
+pub(crate) const VARIABLE: Formal = Formal {
     num_degree: 1,
     den_degree: 0,
     num_terms: 1,

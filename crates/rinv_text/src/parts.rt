@@ -8,7 +8,8 @@ ghost use Rattle.rinv_text.specs.Reading.{to_the};
 ghost use Rattle.rinv_text.specs.Values.{Stands, IsOver, MayCross, MayJoin};
 ghost use Rattle.rinv_text.specs.Meanings.{Meaning, number_meaning, variable_meaning, negative_meaning, sum_meaning, product_meaning, quotient_meaning, power_meaning, within, StandsFor};
 
-use crate::partial::{Partial, multiplied, raised};
+use crate::operations::{multiplied, raised};
+use crate::partial::Partial;
 use rinv_poly::{KPoly, PolyRing};
 use rinv_ring::{Gf, Ring};
 use std::alloc::{AllocError as NoMemory, Global};

@@ -7,13 +7,9 @@ ghost use Rattle.rinv_text.specs.Reading.{formal_at};
 ghost use Rattle.rinv_text.specs.Sizes.{capped, judged, sizes, IsSize, IsCapped};
 
 use crate::defs::Defs;
-use crate::formal::{Formal, NUMBER, VARIABLE};
+use crate::formal::{Formal, MAX_DEGREE, MAX_TERMS, NUMBER, VARIABLE};
 use crate::step::Step;
 use std::alloc::{AllocError as NoMemory, Global};
-
-const MAX_EXPONENT: u32 = 64;
-
-const MAX_TERMS: u64 = 1_000_000;
 
 /// The formal numbers of an expression, where 65 and 1,000,001 stand for all that are greater; whether a degree or an exponent in it is
 /// too great; and whether a part of it has too many terms.
@@ -121,7 +117,7 @@ impl Size {
         let numbers = numbers_power(self.numbers, exponent);
         judged(
             numbers,
-            self.is_high || exponent > MAX_EXPONENT,
+            self.is_high || exponent as u64 > MAX_DEGREE,
             self.is_long,
         )
     }

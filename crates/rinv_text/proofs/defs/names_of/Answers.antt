@@ -1,4 +1,4 @@
-use Rattle.std.proofs.Common.{arith, ◌∙◌}
+use Rattle.std.proofs.Common.{arith}
 use Rattle.rinv_text.proofs.Definitions.{name-absent, names-more, names-all}
 use Rattle.rinv_text.proofs.defs.names_of.Goals as goal
 

@@ -1,4 +1,3 @@
-use Rattle.std.proofs.Common.{subst}
 use Rattle.rinv_text.proofs.Crossings.{some-over}
 use Rattle.rinv_text.proofs.KeptFractions.{one-kept}
 use Rattle.rinv_text.proofs.fractions.whole_den.Goals as goal

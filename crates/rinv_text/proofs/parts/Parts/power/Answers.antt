@@ -1,6 +1,6 @@
 use Rattle.rinv_text.specs.Formal.{formal_power}
 use Rattle.rinv_text.specs.Meanings.{power_meaning}
-use Rattle.rinv_text.proofs.Crossings.{num-low, den-low}
+use Rattle.rinv_text.proofs.Crossings.{den-low}
 use Rattle.rinv_text.proofs.Piles.{along, within-some}
 use Rattle.rinv_text.proofs.parts.Parts.power.Goals as goal
 
