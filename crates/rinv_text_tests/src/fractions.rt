@@ -1,8 +1,12 @@
 //! Texts of fractions over GF(7), in x and y.
 
-ghost use Rattle.std.specs.Prelude.{◌≡◌, [], ◌∷◌, codes, IfOk};
+ghost use Rattle.std.specs.Prelude.{◌≡◌, ◌≤◌, [], ◌∷◌, length, map, codes, false, All, IfOk};
+ghost use Rattle.rinv_algebra.specs.Monomial.{total_degree};
+ghost use Rattle.rinv_frac.specs.Fractions.{IsStored};
+ghost use Rattle.rinv_text.specs.Names.{meet};
+ghost use Rattle.rinv_text.specs.Reading.{Definition};
 
-use rinv_frac::FracRing;
+use rinv_frac::{Frac, FracRing};
 use rinv_poly::PolyRing;
 use rinv_ring::Gf;
 use rinv_text::{Defs, Formal, Names, TextCode, TextStop, read_frac, write_frac};
@@ -89,17 +93,58 @@ fn x_and_y(alloc: Global) -> Result<Names, TextStop>
     Ok(names)
 }
 
-// What is read of the text, printed again, with its formal numbers.
-fn rewritten(alloc: Global, text: &str) -> Result<(Vec<u8>, Formal), TextStop> {
+// What is read of the text.
+fn read(
+    alloc: Global,
+    text: &str,
+    names: &Names,
+    defs: &Defs,
+    field: &FracRing,
+) -> Result<(Frac, Formal), TextStop>
+    requires many { length names.now ≡ field.now.base.vars }
+    requires apart { meet names.now (map (λ d. d.name) defs.now) ≡ false }
+    requires values { All (λ d. IsStored field.now.base.coeffs field.now.base.vars d.value) defs.now }
+    ensures element { IfOk result (λ r. IsStored field.now.base.coeffs field.now.base.vars r.0) }
+    ensures numerator { IfOk result (λ r. All (λ t. total_degree t.0 ≤ r.1.num_degree) r.0.0) }
+    ensures denominator { IfOk result (λ r. All (λ t. total_degree t.0 ≤ r.1.den_degree) r.0.1) }
+{
     if text.len() > 1_000_000 {
         return Err(TextStop::NoMemory);
     }
+    let answer = read_frac(alloc, text, names, defs, field)?;
+    Ok(answer)
+}
+
+// The text of the fraction.
+fn printed(alloc: Global, f: &Frac, names: &Names, field: &FracRing) -> Result<Vec<u8>, TextStop>
+    requires fraction { IsStored field.now.base.coeffs field.now.base.vars f.now }
+    requires names { length names.now ≡ field.now.base.vars }
+{
+    let mut out = Vec::new(alloc);
+    write_frac(alloc, f, names, field, &mut out)?;
+    Ok(out)
+}
+
+// What is read of the text, printed again, with its formal numbers.
+fn rewritten(alloc: Global, text: &str) -> Result<(Vec<u8>, Formal), TextStop> {
     let field = fractions();
     let names = x_and_y(alloc)?;
-    let (fraction, formal) = read_frac(alloc, text, &names, &Defs::empty(alloc), &field)?;
-    let mut out = Vec::new(alloc);
-    write_frac(alloc, &fraction, &names, &field, &mut out)?;
+    let defs = Defs::empty(alloc);
+    let (fraction, formal) = read(alloc, text, &names, &defs, &field)?;
+    let out = printed(alloc, &fraction, &names, &field)?;
     Ok((out, formal))
+}
+
+// The abbreviation `t` alone.
+fn called_t(alloc: Global, value: Frac, formal: Formal) -> Result<Defs, TextStop>
+    requires numerator { All (λ t. total_degree t.0 ≤ formal.num_degree) value.0 }
+    requires denominator { All (λ t. total_degree t.0 ≤ formal.den_degree) value.1 }
+    ensures { IfOk result (λ ds. ds ≡ (record { name = codes "t"; value = value; formal = formal }) ∷ []) }
+{
+    let mut defs = Defs::empty(alloc);
+    let name = String::from_str(alloc, "t")?;
+    defs.add(name, value, formal)?;
+    Ok(defs)
 }
 
 // Whether these are the formal numbers.
@@ -113,18 +158,13 @@ fn are_numbers(formal: Formal, numbers: [u64; 4]) -> bool {
 
 // The text read where `t` stands for what the other text denotes, and printed again.
 fn defined(alloc: Global, value: &str, text: &str) -> Result<Vec<u8>, TextStop> {
-    if value.len() > 1_000_000 || text.len() > 1_000_000 {
-        return Err(TextStop::NoMemory);
-    }
     let field = fractions();
     let names = x_and_y(alloc)?;
-    let (value, formal) = read_frac(alloc, value, &names, &Defs::empty(alloc), &field)?;
-    let mut defs = Defs::empty(alloc);
-    let name = String::from_str(alloc, "t")?;
-    defs.add(name, value, formal)?;
-    let (fraction, _) = read_frac(alloc, text, &names, &defs, &field)?;
-    let mut out = Vec::new(alloc);
-    write_frac(alloc, &fraction, &names, &field, &mut out)?;
+    let none = Defs::empty(alloc);
+    let (value, formal) = read(alloc, value, &names, &none, &field)?;
+    let defs = called_t(alloc, value, formal)?;
+    let (fraction, _) = read(alloc, text, &names, &defs, &field)?;
+    let out = printed(alloc, &fraction, &names, &field)?;
     Ok(out)
 }
 
