@@ -1,15 +1,15 @@
 -- Values on the graph of the action: they depend on the coefficients of the point's coordinates, of the value and of the ideal alone.
 --   vanishes-same      where the value is taken and multiplied out
 --   vanishes-unfit     where it does not fit
-use Rattle.std.proofs.Common.{◌≡◌, ℕ, Bool, true, false, ◌&&◌, List, [], ◌∷◌, length, nat_lt, refl, sym, ap, ◌∙◌}
-use Rattle.std.specs.List.{AllZip, list_all}
+use Rattle.std.proofs.Common.{◌≡◌, ℕ, Bool, true, false, ◌&&◌, List, [], ◌∷◌, nat_lt, refl, sym, ap, ◌∙◌}
+use Rattle.std.specs.List.{AllZip}
 use Rattle.rinv_algebra.specs.Ring.{IsSame}
 use Rattle.rinv_algebra.specs.Residue.{residue_ops}
 use Rattle.rinv_algebra.specs.Polynomial.{poly_ops, product, same}
 use Rattle.rinv_algebra.specs.Normal.{IsNormal}
 use Rattle.rinv_algebra.specs.Value.{substitute}
 use Rattle.rinv_algebra.specs.Ideal.{combination}
-use Rattle.rinv_algebra.specs.Fits.{product_fits, substitution_fits, combination_fits, multiplies_out}
+use Rattle.rinv_algebra.specs.Fits.{substitution_fits, combination_fits, multiplies_out}
 use Rattle.rinv_algebra.proofs.Degrees.{iff-equal, product_fits-same}
 use Rattle.rinv_algebra.proofs.PolynomialLaws.{poly_laws}
 use Rattle.rinv_algebra.proofs.ResidueLaws.{residue_laws}
@@ -90,3 +90,13 @@ module _ (s : System) (v : ℕ) (point : List Poly) (stands : AreStored s.p v (g
   vanishes-unfit w x y normal meets =
       let o = residue_ops s.p in
       sym (ap (λ (b : Bool). b && multiplies_out o (substitute o (graph_point s) h) us s.ideal) (sym fits-point ∙ (residues-misfit s.p v point h w normal x y meets).1))
+
+-- the same with the numbers and lists as they are at hand
+module _ (s : System) (p v : ℕ) (point images : List Poly) (h : Poly) (us : List Poly) (field : p ≡ s.p) (are : images ≡ point) (stands : AreStored s.p v (graph_point s) point) where
+  pub same-on_graph : (ideal generators : List Poly) (value : Poly) → generators ≡ ideal → AreStored s.p v s.ideal ideal → IsSame (poly_ops (residue_ops p)) value (substitute (residue_ops p) images h) → substitution_fits (residue_ops p) images h ≡ true
+      → multiplies_out (residue_ops p) value us generators ≡ vanishes_on_graph s h us
+  same-on_graph ideal generators value of_ideal stored is fits =
+      rw (field, of_ideal) (vanishes-same s v point stands h us ideal stored value (rw (field, are) at is) (rw (field, are) at fits))
+
+  pub unfit-on_graph : (w x y : ℕ) → IsNormal (residue_ops p) (λ c. nat_lt c p) w h → SubstitutionMeets (residue_ops p) (λ c. nat_lt c p) never v images h x y → false ≡ vanishes_on_graph s h us
+  unfit-on_graph w x y normal meets = vanishes-unfit s v point stands h us w x y (rw field at normal) (rw (field, are) at meets)

@@ -1,12 +1,11 @@
 -- Lists of stored polynomials that grow at their end, behind others that stand there already.
 --   stored-behind, taken-behind, range-behind    one polynomial more: of any list, of a mapped one, of a range
 --   stored-taken                                 the same with none before
---   copy-stored                                  a polynomial once more
---   copies-behind, copy-inside                   one copy more
-use Rattle.std.proofs.Common.{◌≡◌, ℕ, ◌+◌, ◌*◌, ◌<◌, ◌≤◌, List, [], ◌∷◌, ◌++◌, length, map, take, get_or, nat_lt, refl, sym, ap, ◌∙◌, subst, append_assoc, append-nil, arith}
+--   normal-at, copy-stored                       one of a list, and its copy
+--   copies-behind, places-behind                 one copy more, one place more
+use Rattle.std.proofs.Common.{◌≡◌, ℕ, ◌+◌, ◌<◌, List, [], ◌∷◌, ◌++◌, length, map, take, get_or, nat_lt, refl, sym, ap, ◌∙◌, subst, append_assoc, append-nil, arith}
 use Rattle.std.specs.Prelude.{flat_map}
 use Rattle.std.specs.List.{range_with_len}
-use Rattle.std.proofs.Math.Nat.{mul-le-mul_right}
 use Rattle.std.proofs.lemmas.Grind.{flat_map-append}
 use Rattle.std.proofs.lemmas.List.{map-append}
 use Rattle.std.proofs.lemmas.List.Elements.{AllZip-push}
@@ -44,11 +43,13 @@ module _ (p v : ℕ) where
   stored-taken fs k f hs g few at so_far here =
       subst (λ (ks : List Poly). AreStored p v ks (hs ++ g ∷ [])) (sym (take-at fs k f few at)) (AllZip-push (IsStoredIn p v) (take k fs) hs f g so_far here)
 
-  -- a copy of one of them
+  -- one of them
+  pub normal-at : (fs : List Poly) (k : ℕ) (f : Poly) → k < length fs → f ≡ get_or fs k f → ArePolynomials p v fs → IsNormal (residue_ops p) (λ c. nat_lt c p) v f
+  normal-at fs k f few at normal = subst (IsNormal (residue_ops p) (λ c. nat_lt c p) v) (sym at) (normal k f few)
+
+  -- and its copy
   pub copy-stored : (fs : List Poly) (k : ℕ) (f g : Poly) → k < length fs → f ≡ get_or fs k f → ArePolynomials p v fs → g ≡ f → IsStoredIn p v f g
-  copy-stored fs k f g few at normal e =
-      let is_normal : IsNormal (residue_ops p) (λ c. nat_lt c p) v f = subst (IsNormal (residue_ops p) (λ c. nat_lt c p) v) (sym at) (normal k f few) in
-      rw e (record { normal = is_normal; value = (poly_laws (residue_ops p) (residue_laws p)).same_refl f })
+  copy-stored fs k f g few at normal e = rw e (record { normal = normal-at fs k f few at normal; value = (poly_laws (residue_ops p) (residue_laws p)).same_refl f })
 
 -- one copy more
 pub copies-behind : (copy : ℕ → List Poly) (k : ℕ) → flat_map copy (range_with_len 0 (k + 1)) ≡ flat_map copy (range_with_len 0 k) ++ copy k
@@ -56,13 +57,6 @@ copies-behind copy k =
     let e : 0 + k ≡ k = omega arith in
     ap (flat_map copy) (range-split 0 k 1) ∙ flat_map-append copy (range_with_len 0 k) (range_with_len (0 + k) 1)
     ∙ ap (λ (r : List Poly). flat_map copy (range_with_len 0 k) ++ r) (append-nil (copy (0 + k)) ∙ ap copy e)
-
--- a copy's variables are among those of all copies
-pub copy-inside : (j count v total : ℕ) → j < count → count * v ≤ total → j * v + v ≤ total
-copy-inside j count v total below inside =
-    let more : (j + 1) * v ≤ count * v = mul-le-mul_right v (omega (arith, below)) in
-    let e : (j + 1) * v ≡ j * v + v = omega arith in
-    omega (arith, more, e, inside)
 
 -- a list of places grows by the next one
 pub places-behind : (gs items new : List ℕ) (a k x : ℕ) → new ≡ items ++ x ∷ [] → items ≡ gs ++ range_with_len a k → x ≡ a + k → new ≡ gs ++ range_with_len a (k + 1)

@@ -1,17 +1,16 @@
 -- What the form of a stored certificate says of the polynomials that are computed with.
 --   ideal-normal, action-normal, action-count    those of the system
 --   element-normal, elements-are                 those of the basis
-use Rattle.std.proofs.Common.{◌≡◌, ℕ, zero, suc, ◌+◌, ◌*◌, ◌<◌, List, [], ◌∷◌, length, map, get_or, Bool, true, ◌&&◌, not, nat_lt, IsTrue, None, refl, sym, ap, ap₂, ◌∙◌, subst, arith}
+use Rattle.std.proofs.Common.{◌≡◌, ℕ, zero, suc, ◌+◌, ◌*◌, ◌<◌, List, [], ◌∷◌, length, map, get_or, Bool, true, not, nat_lt, None, refl, sym, ap, ◌∙◌, subst, arith}
 use Rattle.std.specs.List.{list_all}
 use Rattle.rinv_algebra.specs.Residue.{residue_ops}
 use Rattle.rinv_algebra.specs.Polynomial.{is_zero}
 use Rattle.rinv_algebra.specs.Normal.{IsNormal}
 use Rattle.rinv_algebra.proofs.Same.{both}
-use Rattle.rinv_defs.specs.System.{System, Poly, group_count, space_count}
+use Rattle.rinv_defs.specs.System.{Poly, group_count, space_count}
 use Rattle.rinv_defs.specs.SystemForm.{is_good, are_good, is_nonzero}
-use Rattle.rinv_defs.specs.Certificate.{Certificate, full}
+use Rattle.rinv_defs.specs.Certificate.{full}
 use Rattle.rinv_defs.specs.Format.{format_failure, is_basis_item}
-use Rattle.rinv_defs.specs.Conditions.{elements}
 use Rattle.rinv_cert.specs.declared.certificate.CertificateOf.{CertificateOf}
 use Rattle.rinv_cert.specs.Seen.{plain, basis_item_by}
 use Rattle.rinv_cert.proofs.Same.{map-same}

@@ -1,4 +1,4 @@
-use Rattle.std.proofs.Common.{◌≡◌, ◌+◌, ℕ, [], refl, arith, ◌∙◌, ap, sym}
+use Rattle.std.proofs.Common.{◌+◌, [], arith}
 use Rattle.std.specs.List.{range_with_len}
 use Rattle.rinv_identities.proofs.GrowingLists.{places-behind}
 use Rattle.rinv_identities.proofs.generators.places_around.Goals as goal

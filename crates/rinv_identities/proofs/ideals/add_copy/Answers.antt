@@ -1,4 +1,4 @@
-use Rattle.std.proofs.Common.{◌≡◌, ◌++◌, List, map, subst, append-nil}
+use Rattle.std.proofs.Common.{◌++◌, List, map, subst, append-nil}
 use Rattle.std.proofs.lemmas.List.{take_all}
 use Rattle.rinv_algebra.specs.Ring.{IsSame}
 use Rattle.rinv_algebra.specs.Residue.{residue_ops}

@@ -1,10 +1,10 @@
-use Rattle.std.proofs.Common.{◌≡◌, ◌++◌, ◌*◌, ◌≤◌, ◌+◌, ℕ, List, map, sym, subst, arith}
+use Rattle.std.proofs.Common.{◌≡◌, ◌++◌, ◌*◌, ℕ, List, map, sym, subst, arith}
 use Rattle.std.specs.Prelude.{flat_map}
 use Rattle.std.specs.List.{range_with_len}
 use Rattle.rinv_algebra.specs.Polynomial.{past}
 use Rattle.rinv_defs.specs.System.{Poly}
 use Rattle.rinv_parts.specs.Points.{AreStored}
-use Rattle.rinv_identities.proofs.GrowingLists.{copies-behind, copy-inside}
+use Rattle.rinv_identities.proofs.GrowingLists.{copies-behind}
 use Rattle.rinv_identities.proofs.ideals.copied_ideal.Goals as goal
 
 pub copies-init : goal.copies-init
