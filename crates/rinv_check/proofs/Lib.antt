@@ -1,4 +1,7 @@
 pub mod FirstFailures
-pub mod LawFits
 pub mod Changes
-pub mod FractionSettings
+pub mod LawFits
+pub mod LawsShown
+pub mod LawCofactors
+pub mod PairWalks
+pub mod BasisParts
