@@ -2,16 +2,17 @@
 --   change-same                     from the four products to the change
 --   fits-moved, fits-left, ..       which of the products does not fit
 --   meets-numerator, ..              over numbers modulo a prime Degree comes only where something does not fit
---   shown-multiplied, shown-ideal    the condition, from the change and from what stands for the ideal
+--   shown-same, position_from-agree    the condition depends on the coefficients of the ideal alone
 use Rattle.std.proofs.Common.{◌≡◌, ℕ, ◌+◌, Bool, true, false, ◌&&◌, List, [], ◌∷◌, ◌++◌, length, refl, sym, ap, ◌∙◌, ◌<◌, get_or, take, suc, arith}
 use Rattle.std.specs.Prelude.{zip, not, Option, Result, Ok, Err, IfOk, All, IsTrue}
-use Rattle.std.specs.List.{position_from, list_all, AllZip}
+use Rattle.std.specs.List.{position_from, list_all}
 use Rattle.std.proofs.lemmas.List.Elements.{All-nil, All-cons}
 use Rattle.rinv_algebra.proofs.Same.{both}
 use Rattle.std.specs.Prelude.{nat_lt, ◌==◌}
 use Rattle.std.proofs.lemmas.Bool.Decides.{nat_tests}
 use Rattle.rinv_form.specs.Forms.{is_stored, are_stored}
 use Rattle.std.proofs.lemmas.List.{length-replicate}
+use Rattle.rinv_sub.proofs.Sums.{take-at}
 use Rattle.rinv_algebra.specs.Ring.{RingOps, RingLaws, IsSame}
 use Rattle.rinv_algebra.specs.Residue.{residue_ops}
 use Rattle.rinv_algebra.specs.Polynomial.{poly_ops, product, same, opposite, past}
@@ -30,10 +31,9 @@ use Rattle.rinv_defs.specs.System.{System, Poly, group_count}
 use Rattle.rinv_defs.specs.Invariant.{Fraction, change}
 use Rattle.rinv_defs.specs.Conditions.{invariance_is_shown}
 use Rattle.rinv_poly.proofs.Meets.{meet-weaker}
-use Rattle.rinv_sub.specs.Refusal.{SubstitutionMeets, never}
-use Rattle.rinv_identities.proofs.Walks.{position_from-agree}
-use Rattle.rinv_sub.proofs.Misfits.{residues-misfit}
-use Rattle.rinv_check.specs.Setting.{setting, change_fits}
+use Rattle.rinv_sub.specs.Refusal.{SubstitutionMeets, CombinationMeets, never}
+use Rattle.rinv_sub.proofs.Misfits.{residues-misfit, residues-uncombined}
+use Rattle.rinv_check.specs.Setting.{setting, change_fits, AreSame}
 
 -- a test of sameness answers one thing for what is the same on both sides
 pub same-both : {E : Type 0} (o : RingOps E) (l : RingLaws o) (x x' y y' : E) → IsSame o x x' → IsSame o y y' → o.same x y ≡ o.same x' y'
@@ -82,14 +82,6 @@ fits-numerator p l action n d a = rw a refl
 pub fits-denominator : (p l : ℕ) (action : List Poly) (n d : Poly) → substitution_fits (residue_ops p) action d ≡ false → change_fits p l action n d ≡ false
 fits-denominator p l action n d c = rw (c, and_false (substitution_fits (residue_ops p) action n && product_fits (residue_ops p) (substitute (residue_ops p) action n) (past l d))) refl
 
--- ---- polynomials that stand for one another
-
-pub multiplies_out-stands : (p : ℕ) (f g : Poly) (us fs : List Poly) → IsSame (poly_ops (residue_ops p)) f g → multiplies_out (residue_ops p) f us fs ≡ multiplies_out (residue_ops p) g us fs
-multiplies_out-stands p f g us fs e =
-    let ops = poly_ops (residue_ops p) in
-    let laws = poly_laws (residue_ops p) (residue_laws p) in
-    ap (λ b. combination_fits (residue_ops p) us fs && b) (same-both ops laws f g (combination (residue_ops p) us fs) (combination (residue_ops p) us fs) e (laws.same_refl (combination (residue_ops p) us fs)))
-
 -- ---- the condition, part by part
 
 module _ (p l : ℕ) (action ideal : List Poly) (n d : Poly) (us : List Poly) where
@@ -101,14 +93,14 @@ module _ (p l : ℕ) (action ideal : List Poly) (n d : Poly) (us : List Poly) wh
   pub shown-unfit : change_fits p l action n d ≡ false → invariance_is_shown (setting p l action ideal) (n, d) us ≡ false
   shown-unfit a = shown-is ∙ rw a refl
 
-  pub shown-multiplied : (c : Poly) → change_fits p l action n d ≡ true → IsSame (poly_ops (residue_ops p)) c (change (setting p l action []) (n, d))
-      → multiplies_out (residue_ops p) c us ideal ≡ invariance_is_shown (setting p l action ideal) (n, d) us
-  shown-multiplied c a e = multiplies_out-stands p c (change (setting p l action []) (n, d)) us ideal e ∙ sym (shown-is ∙ rw a refl)
+  pub shown-uncombined : combination_fits (residue_ops p) us ideal ≡ false → invariance_is_shown (setting p l action ideal) (n, d) us ≡ false
+  shown-uncombined a = shown-is ∙ rw a (and_false (change_fits p l action n d))
+
+  pub shown-same : (c s : Poly) → change_fits p l action n d ≡ true → combination_fits (residue_ops p) us ideal ≡ true → IsSame (poly_ops (residue_ops p)) c (change (setting p l action []) (n, d)) → IsSame (poly_ops (residue_ops p)) s (combination (residue_ops p) us ideal)
+      → same (residue_ops p) c s ≡ invariance_is_shown (setting p l action ideal) (n, d) us
+  shown-same c s a b e f = same-both (poly_ops (residue_ops p)) (poly_laws (residue_ops p) (residue_laws p)) c (change (setting p l action []) (n, d)) s (combination (residue_ops p) us ideal) e f ∙ sym (shown-is ∙ rw (a, b) refl)
 
 -- ---- ideals that are the same, place by place
-
-abbrev pub AreSame : ℕ → List Poly → List Poly → Type 0
-AreSame p gs fs = AllZip (IsSame (poly_ops (residue_ops p))) gs fs
 
 combination-same : (p : ℕ) (us gs fs : List Poly) → AreSame p gs fs → IsSame (poly_ops (residue_ops p)) (combination (residue_ops p) us gs) (combination (residue_ops p) us fs)
 unfolding combination
@@ -131,7 +123,7 @@ combination_fits-same p (u ∷ us) (g ∷ gs) (f ∷ fs) s =
     let rest = combination_fits-same p us gs fs s.1 in
     rw (product_fits-same (residue_ops p) (residue_laws p) u u g f (laws.same_refl u) s.0, rest) refl
 
-pub multiplies_out-same : (p : ℕ) (c : Poly) (us gs fs : List Poly) → AreSame p gs fs → multiplies_out (residue_ops p) c us gs ≡ multiplies_out (residue_ops p) c us fs
+multiplies_out-same : (p : ℕ) (c : Poly) (us gs fs : List Poly) → AreSame p gs fs → multiplies_out (residue_ops p) c us gs ≡ multiplies_out (residue_ops p) c us fs
 multiplies_out-same p c us gs fs s =
     let ops = poly_ops (residue_ops p) in
     let laws = poly_laws (residue_ops p) (residue_laws p) in
@@ -146,6 +138,12 @@ shown-ideal p l action gs fs s ((n, d), us) = shown-is p l action gs n d us ∙ 
 pub shown-setting : (s : System) (x : Fraction × List Poly) → invariance_is_shown (setting s.p (group_count s) s.action s.ideal) x.0 x.1 ≡ invariance_is_shown s x.0 x.1
 unfolding invariance_is_shown change
 shown-setting s ((n, d), us) = rw (length-replicate {A = List ℕ} (group_count s) []) refl
+
+-- ---- the first place at which a test passes
+
+pub position_from-agree : {X : Type 0} (f g : X → Bool) → ((x : X) → f x ≡ g x) → (k : ℕ) (xs : List X) → position_from f k xs ≡ position_from g k xs
+position_from-agree f g h k [] = refl
+position_from-agree f g h k (x ∷ xs) = let rest = position_from-agree f g h (k + 1) xs in rw (h x, rest) refl
 
 -- a fact that holds whichever degrees meet
 pub meets-so : {A B : Type 0} → (A → B) → (e : RingFault) → DegreesMeet (λ _ _. A) e → DegreesMeet (λ _ _. B) e
@@ -166,7 +164,23 @@ module _ (p v l : ℕ) (action : List Poly) (n d : Poly) where
       meet-weaker (SubstitutionMeets (residue_ops p) (λ c. nat_lt c p) never v action d) (λ _ _. change_fits p l action n d ≡ false)
       (λ x y h. fits-denominator p l action n d (residues-misfit p v action d w stored x y h).1) e m
 
+-- in a combination of so many cofactors
+pub meets-combination : (p v w : ℕ) (us fs : List Poly) → IsTrue (are_stored p w (length fs) us) → (x y : ℕ) → CombinationMeets (residue_ops p) (λ c. nat_lt c p) never v us fs x y → combination_fits (residue_ops p) us fs ≡ false
+meets-combination p v w us fs stored x y h =
+    let many : (length us == length fs) ≡ true = (both (length us == length fs) (list_all (is_stored p w) us) stored).0 in
+    (residues-uncombined p v us fs (grind (arith, nat_tests, many)) x y h).1
+
 -- ---- loops
+
+-- one polynomial more
+pub AreSame-push : (p : ℕ) (gs fs : List Poly) (g f : Poly) (k : ℕ) → k < length fs → f ≡ get_or fs k f → AreSame p gs (take k fs) → IsSame (poly_ops (residue_ops p)) g f → AreSame p (gs ++ g ∷ []) (take (k + 1) fs)
+AreSame-push p gs fs g f k h at s e = rw (take-at fs k f h at) (pushed gs (take k fs) s)
+  where
+    pushed : (gs hs : List Poly) → AreSame p gs hs → AreSame p (gs ++ g ∷ []) (hs ++ f ∷ [])
+    pushed [] [] s = (e, tt)
+    pushed [] (x ∷ hs) s = absurd s
+    pushed (x ∷ gs) [] s = absurd s
+    pushed (x ∷ gs) (y ∷ hs) s = (s.0, pushed gs hs s.1)
 
 pub AreSame-length : (p : ℕ) (gs fs : List Poly) → AreSame p gs fs → length gs ≡ length fs
 AreSame-length p [] [] s = refl

@@ -1,7 +1,6 @@
 pub mod FirstFailures
-pub mod Changes
 pub mod LawFits
-pub mod LawsShown
-pub mod LawCofactors
+pub mod Changes
+pub mod FractionSettings
 pub mod PairWalks
 pub mod BasisParts

@@ -1,16 +1,22 @@
 -- Walks along two lists at once, up to the first pair that fails.
 --   pairs-more, pairs-stop, pairs-end     the place of the failure, by the pairs that are left
 --   stored-walk                           polynomials as they are stored fail at the same place
-use Rattle.std.proofs.Common.{◌≡◌, ℕ, zero, suc, ◌+◌, ◌<◌, ◌≤◌, List, [], ◌∷◌, length, get_or, Bool, true, false, cond, not, Some, None, refl, sym, ap, ◌∙◌, arith}
+use Rattle.std.proofs.Common.{◌≡◌, ℕ, zero, suc, ◌+◌, ◌<◌, ◌≤◌, List, [], ◌∷◌, length, get_or, Bool, true, false, ◌&&◌, cond, not, Some, None, refl, sym, ap, ◌∙◌, arith}
 use Rattle.std.specs.Prelude.{zip}
 use Rattle.std.specs.List.{position_from}
 use Rattle.std.proofs.lemmas.Slice.Zip.{get_or-zip}
+use Rattle.rinv_algebra.specs.Ring.{IsSame}
 use Rattle.rinv_algebra.specs.Residue.{residue_ops}
-use Rattle.rinv_algebra.specs.Fits.{multiplies_out}
+use Rattle.rinv_algebra.specs.Polynomial.{poly_ops, same}
+use Rattle.rinv_algebra.specs.Ideal.{combination}
+use Rattle.rinv_algebra.specs.Fits.{combination_fits, multiplies_out}
+use Rattle.rinv_algebra.proofs.PolynomialLaws.{poly_laws}
+use Rattle.rinv_algebra.proofs.ResidueLaws.{residue_laws}
+use Rattle.rinv_algebra.proofs.RingFacts as facts
+use Rattle.rinv_algebra.proofs.Degrees.{iff-equal}
 use Rattle.rinv_defs.specs.System.{Poly}
 use Rattle.rinv_parts.specs.Points.{AreStored}
 use Rattle.rinv_identities.proofs.Walks.{Walks, walk-more, walk-stop, walk-end}
-use Rattle.rinv_check.proofs.Changes.{multiplies_out-stands}
 
 module _ {A B : Type 0} where
   pair-within : (xs : List A) (ys : List B) (k : ℕ) → k < length xs → k < length ys → k < length (zip xs ys)
@@ -40,6 +46,14 @@ module _ {A B : Type 0} where
 
     pub pairs-end : length xs ≤ k → Walks test (zip xs ys) k → position_from test 1 (zip xs ys) ≡ None
     pairs-end past w = walk-end test (zip xs ys) k (let few = pairs-few xs ys in omega (arith, past, few)) w
+
+-- a polynomial that stands for another
+multiplies_out-stands : (p : ℕ) (f g : Poly) (us fs : List Poly) → IsSame (poly_ops (residue_ops p)) f g → multiplies_out (residue_ops p) f us fs ≡ multiplies_out (residue_ops p) g us fs
+multiplies_out-stands p f g us fs e =
+    let ops = poly_ops (residue_ops p) in
+    let laws = poly_laws (residue_ops p) (residue_laws p) in
+    let sum = combination (residue_ops p) us fs in
+    ap (λ b. combination_fits (residue_ops p) us fs && b) (iff-equal (same (residue_ops p) f sum) (same (residue_ops p) g sum) (λ h. facts.then ops laws (facts.back ops laws e) h) (λ h. facts.then ops laws e h))
 
 -- the polynomials as they are stored
 pub stored-walk : (p v : ℕ) (es fs gs : List Poly) (uss : List (List Poly)) (k : ℕ) → AreStored p v fs gs
