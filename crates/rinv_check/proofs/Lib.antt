@@ -4,3 +4,4 @@ pub mod Changes
 pub mod FractionSettings
 pub mod PairWalks
 pub mod BasisParts
+pub mod StoredSystems
