@@ -180,7 +180,9 @@ fn refuses_parts_of_the_other_kinds(rt: HostRuntime) {
 
 // The word, as a list of one name.
 fn alone(alloc: Global, word: &str) -> Result<Vec<Name>, AllocError> {
-    vec![in alloc; Name::new(String::from_str(alloc, word)?)]
+    let mut names = Vec::new(alloc);
+    names.push(Name::new(String::from_str(alloc, word)?))?;
+    Ok(names)
 }
 
 // Whether the word is taken as a name so, and never twice.
