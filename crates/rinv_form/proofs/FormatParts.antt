@@ -24,7 +24,7 @@ use Rattle.rinv_form.specs.Stops.{StopsAt, frame_failure, lists_failure}
 use Rattle.rinv_form.specs.Trimmed.{keys_of_kind, trimmed}
 use Rattle.rinv_form.specs.declared.frame.FormatStop.{FormatStop}
 use Rattle.rinv_form.specs.declared.sizes.Sizes.{Sizes}
-use Rattle.rinv_form.proofs.Kept.{kept-none, kept-holds}
+use Rattle.rinv_form.proofs.Kept.{kept-some, kept-none, kept-holds}
 use Rattle.rinv_form.proofs.StoredLists.{each_stored-kept}
 use Rattle.rinv_form.proofs.FirstParts.{part_holds, part_fails, no_part, first_false-append, stops-first, stops-later, one-stops, one-holds}
 use Rattle.rinv_form.proofs.SeenForms.{basis-forms, pair-forms, relation-forms, law-forms}
@@ -152,21 +152,26 @@ module _ (c : Certificate) (z : Sizes) (is : IsSized c z) where
 
 -- ---- the keys that are stored
 
+-- a list of which all is stored
+pub stored-same : {A : Type 0} (test : A → Bool) (xs ys : List A) → Some ys ≡ each_stored (λ x. kept (test x) x) xs → ys ≡ xs
+stored-same test xs ys e = kept-some (list_all test xs) xs ys (e ∙ each_stored-kept _ test (λ x. refl) xs)
+
 pub keys-invariance : (o c : CertificateOf Poly) → o.kind ≡ Invariance → o.system ≡ c.system → o.fractions ≡ c.fractions → o.invariance ≡ c.invariance
     → o.laws ≡ [] → o.basis ≡ [] → o.inputs ≡ [] → o.pairs ≡ [] → o.relations ≡ [] → plain o ≡ keys_of_kind invariance (plain c)
 keys-invariance o c k s f i l b n p r = rw (k, s, f, i, l, b, n, p, r) refl
 
-pub keys-sound : (o s c : CertificateOf Poly) → plain s ≡ keys_of_kind invariance (plain c) → o ≡ record { kind = Sound; system = s.system; fractions = s.fractions; invariance = s.invariance; laws = c.laws; basis = s.basis; inputs = s.inputs; pairs = s.pairs; relations = s.relations }
-    → plain o ≡ keys_of_kind sound (plain c)
-keys-sound o s c h e =
-    ap plain e
-    ∙ ap (λ (d : Certificate). record { kind = sound; system = d.system; fractions = d.fractions; invariance = d.invariance; laws = (plain c).laws; basis = d.basis; inputs = d.inputs; pairs = d.pairs; relations = d.relations }) h
+pub keys-sound : (s c : CertificateOf Poly) → plain s ≡ keys_of_kind invariance (plain c) → (laws : List (List (List Poly))) → laws ≡ c.laws
+    → plain (record { kind = Sound; system = s.system; fractions = s.fractions; invariance = s.invariance; laws = laws; basis = s.basis; inputs = s.inputs; pairs = s.pairs; relations = s.relations }) ≡ keys_of_kind sound (plain c)
+keys-sound s c h laws e =
+    ap (λ (d : Certificate). record { kind = sound; system = d.system; fractions = d.fractions; invariance = d.invariance; laws = map (map (map (λ f. f))) laws; basis = d.basis; inputs = d.inputs; pairs = d.pairs; relations = d.relations }) h
+    ∙ ap (λ (ls : List (List (List Poly))). keys_of_kind sound (record { kind = sound; system = (plain c).system; fractions = (plain c).fractions; invariance = (plain c).invariance; laws = map (map (map (λ f. f))) ls; basis = []; inputs = []; pairs = []; relations = [] })) e
 
-pub keys-full : (o s c : CertificateOf Poly) → plain s ≡ keys_of_kind sound (plain c) → o ≡ record { kind = Full; system = s.system; fractions = s.fractions; invariance = s.invariance; laws = s.laws; basis = c.basis; inputs = c.inputs; pairs = c.pairs; relations = c.relations }
-    → plain o ≡ keys_of_kind full (plain c)
-keys-full o s c h e =
-    ap plain e
-    ∙ ap (λ (d : Certificate). record { kind = full; system = d.system; fractions = d.fractions; invariance = d.invariance; laws = d.laws; basis = (plain c).basis; inputs = (plain c).inputs; pairs = (plain c).pairs; relations = (plain c).relations }) h
+pub keys-full : (s c : CertificateOf Poly) → plain s ≡ keys_of_kind sound (plain c) → (bs : List (Poly × List Poly)) → bs ≡ c.basis → (us : List (List Poly)) → us ≡ c.inputs → (es : List (PairItem Poly)) → es ≡ c.pairs
+    → (rs : List (List ℕ × Poly × List (List ℕ × Poly × Tied) × List Poly)) → rs ≡ c.relations
+    → plain (record { kind = Full; system = s.system; fractions = s.fractions; invariance = s.invariance; laws = s.laws; basis = bs; inputs = us; pairs = es; relations = rs }) ≡ keys_of_kind full (plain c)
+keys-full s c h bs eb us eu es ee rs er =
+    ap (λ (d : Certificate). record { kind = full; system = d.system; fractions = d.fractions; invariance = d.invariance; laws = d.laws; basis = map (basis_item_by (λ f. f)) bs; inputs = map (map (λ f. f)) us; pairs = map (pair_item_by (λ f. f)) es; relations = map (relation_item_by (λ f. f)) rs }) h
+    ∙ rw (eb, eu, ee, er) refl
 
 -- ---- the whole
 

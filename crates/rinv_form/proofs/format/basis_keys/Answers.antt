@@ -1,7 +1,9 @@
 use Rattle.std.proofs.Common.{◌∙◌, sym, refl, arith}
 use Rattle.rinv_cert.specs.Seen.{plain}
 use Rattle.rinv_cert.proofs.Same.{map-same}
-use Rattle.rinv_form.proofs.FormatParts.{basis-fails, inputs-fail, pairs-fail, relations-fail, basis-hold}
+use Rattle.rinv_form.specs.ItemForms.{is_basis_form, is_pair_form, is_relation_form}
+use Rattle.rinv_form.proofs.Kept.{kept-some}
+use Rattle.rinv_form.proofs.FormatParts.{basis-fails, inputs-fail, pairs-fail, relations-fail, basis-hold, stored-same}
 use Rattle.rinv_form.proofs.format.basis_keys.Goals as goal
 
 pub returns-in_default-clause-part : goal.returns-in_default-clause-part
@@ -29,13 +31,13 @@ returns-clause-form c =
     _ (sym c.in-Some-2.is ∙ c.in_ok-inputs.ensures) _ refl _ (sym c.in-Some-3.is ∙ c.in_ok-pairs.ensures) _ refl _ (sym c.in-Some-4.is ∙ c.in_ok-relations.ensures)
 
 pub returns-clause-basis : goal.returns-clause-basis
-returns-clause-basis c = ?
-
-pub returns-clause-pairs : goal.returns-clause-pairs
-returns-clause-pairs c = ?
-
-pub returns-clause-relations : goal.returns-clause-relations
-returns-clause-relations c = ?
+returns-clause-basis c = stored-same (is_basis_form c.args.sizes.now) _ _ (sym c.in-Some.is ∙ c.in_ok-basis.ensures)
 
 pub returns-clause-inputs : goal.returns-clause-inputs
-returns-clause-inputs c = ?
+returns-clause-inputs c = kept-some _ _ _ (sym c.in-Some-2.is ∙ c.in_ok-inputs.ensures)
+
+pub returns-clause-pairs : goal.returns-clause-pairs
+returns-clause-pairs c = stored-same (is_pair_form c.args.sizes.now) _ _ (sym c.in-Some-3.is ∙ c.in_ok-pairs.ensures)
+
+pub returns-clause-relations : goal.returns-clause-relations
+returns-clause-relations c = stored-same (is_relation_form c.args.sizes.now) _ _ (sym c.in-Some-4.is ∙ c.in_ok-relations.ensures)

@@ -18,15 +18,16 @@ basis_keys-requires-clause-ideal c =
     let few = few-generators (plain c.args.certificate.now) (first_false-append (common_parts (plain c.args.certificate.now)) (law_parts (plain c.args.certificate.now)) c.in_ok-stored.ensures.form) in
     omega (arith, few, c.requires.sized.ideal)
 
-pub returns-in_err-basis_keys-clause-part : goal.returns-in_err-basis_keys-clause-part
-returns-in_err-basis_keys-clause-part c =
-    let q = err_from_is_err_and c.from_residual-in_err-basis_keys.result c.from_residual-in_err-basis_keys.ensures.1 in
+pub returns-in_err-basis-clause-part : goal.returns-in_err-basis-clause-part
+returns-in_err-basis-clause-part c =
+    let q = err_from_is_err_and c.from_residual-in_err-basis.result c.from_residual-in_err-basis.ensures.1 in
     rw (q.1, q.2)
-    (stops-later (common_parts (plain c.args.certificate.now) ++ law_parts (plain c.args.certificate.now)) (basis_parts (plain c.args.certificate.now)) c.in_err-basis_keys.field-0.0 c.in_ok-stored.ensures.form c.in_err-basis_keys.ensures.part)
+    (stops-later (common_parts (plain c.args.certificate.now) ++ law_parts (plain c.args.certificate.now)) (basis_parts (plain c.args.certificate.now)) c.in_err-basis.field-0.0 c.in_ok-stored.ensures.form c.in_err-basis.ensures.part)
 
 pub returns-clause-form : goal.returns-clause-form
 returns-clause-form c =
-    append-holds (common_parts (plain c.args.certificate.now) ++ law_parts (plain c.args.certificate.now)) (basis_parts (plain c.args.certificate.now)) c.in_ok-stored.ensures.form ∙ c.in_ok-basis_keys.ensures.form
+    append-holds (common_parts (plain c.args.certificate.now) ++ law_parts (plain c.args.certificate.now)) (basis_parts (plain c.args.certificate.now)) c.in_ok-stored.ensures.form ∙ c.in_ok-basis.ensures.form
 
 pub returns-clause-keys : goal.returns-clause-keys
-returns-clause-keys c = ?
+returns-clause-keys c =
+    keys-full c.in_ok-stored.stored c.args.certificate.now c.in_ok-stored.ensures.keys c.in_ok-basis.basis c.in_ok-basis.ensures.basis c.in_ok-basis.inputs c.in_ok-basis.ensures.inputs c.in_ok-basis.pairs c.in_ok-basis.ensures.pairs c.in_ok-basis.relations c.in_ok-basis.ensures.relations

@@ -1,5 +1,6 @@
 use Rattle.std.proofs.Common.{◌∙◌, sym, refl}
 use Rattle.std.proofs.lemmas.Result.{err_from_is_err_and}
+use Rattle.rinv_cert.specs.declared.certificate.Kind.TheVariants.{Invariance}
 use Rattle.rinv_cert.specs.Seen.{plain}
 use Rattle.rinv_cert.proofs.Same.{map-same}
 use Rattle.rinv_form.proofs.Kept.{kept-some}
@@ -26,4 +27,8 @@ returns-clause-form c =
     _ (sym (map-same _ (map-same (λ f. f) (λ f. refl)) _)) _ (sym c.in-Some-2.is ∙ c.in_ok-invariance.ensures)
 
 pub returns-clause-keys : goal.returns-clause-keys
-returns-clause-keys c = ?
+returns-clause-keys c =
+    keys-invariance
+    (record { kind = Invariance; system = c.in_ok-system.system; fractions = c.in-Some.fractions; invariance = c.in-Some-2.invariance; laws = c.new-2.result; basis = c.new-4.result; inputs = c.new-6.result; pairs = c.new-8.result; relations = c.new-10.result })
+    c.args.certificate.now refl c.in_ok-system.ensures.same (kept-some _ _ _ (sym c.in-Some.is ∙ c.in_ok-fractions.ensures)) (kept-some _ _ _ (sym c.in-Some-2.is ∙ c.in_ok-invariance.ensures))
+    (c.new-2.ensures ∙ c.new.ensures.items) (c.new-4.ensures ∙ c.new-3.ensures.items) (c.new-6.ensures ∙ c.new-5.ensures.items) (c.new-8.ensures ∙ c.new-7.ensures.items) (c.new-10.ensures ∙ c.new-9.ensures.items)

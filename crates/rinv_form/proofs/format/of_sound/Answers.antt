@@ -26,4 +26,4 @@ returns-clause-form c =
     laws-hold (plain c.args.certificate.now) c.args.sizes.now c.requires.sized c.in_ok-stored.ensures.form _ (sym (map-same _ (map-same _ (map-same (λ f. f) (λ f. refl))) _)) _ (sym c.in-Some.is ∙ c.in_ok-laws.ensures)
 
 pub returns-clause-keys : goal.returns-clause-keys
-returns-clause-keys c = ?
+returns-clause-keys c = keys-sound c.in_ok-stored.stored c.args.certificate.now c.in_ok-stored.ensures.keys c.in-Some.laws (kept-some _ _ _ (sym c.in-Some.is ∙ c.in_ok-laws.ensures))
