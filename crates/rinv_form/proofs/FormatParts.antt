@@ -3,7 +3,7 @@
 --   fractions-fail, .., relations-fail      the first part of the wrong form
 --   common-hold, law-holds, basis-hold      the parts of a kind have their form
 --   keys-invariance, keys-sound, keys-full  what is stored for a kind
-use Rattle.std.proofs.Common.{◌≡◌, ℕ, ◌+◌, ◌*◌, ◌≤◌, List, [], ◌∷◌, ◌++◌, length, map, take, drop, Bool, true, false, ◌&&◌, ◌==◌, Option, Some, None, refl, sym, ap, subst, ◌∙◌}
+use Rattle.std.proofs.Common.{◌≡◌, ℕ, ◌+◌, ◌*◌, List, [], ◌++◌, length, map, take, drop, Bool, ◌&&◌, ◌==◌, Some, None, refl, sym, ap, subst, ◌∙◌}
 use Rattle.std.specs.Prelude.{zip}
 use Rattle.std.specs.List.{list_all}
 use Rattle.rinv_defs.specs.System.{Poly, group_count, space_count}
@@ -16,7 +16,7 @@ use Rattle.rinv_cert.specs.declared.certificate.CertificateOf.{CertificateOf}
 use Rattle.rinv_cert.specs.declared.certificate.PairItem.{PairItem}
 use Rattle.rinv_cert.specs.declared.certificate.Tied.{Tied}
 use Rattle.rinv_cert.specs.Seen.{plain, basis_item_by, pair_item_by, relation_item_by}
-use Rattle.rinv_form.specs.Forms.{kept, each_stored, is_stored, are_stored, is_stored_fraction}
+use Rattle.rinv_form.specs.Forms.{kept, each_stored, are_stored, is_stored_fraction}
 use Rattle.rinv_form.specs.ItemForms.{is_basis_form, is_pair_form, is_relation_form}
 use Rattle.rinv_form.specs.LawShapes.{are_law_lists}
 use Rattle.rinv_form.specs.Sized.{IsSized}

@@ -2,13 +2,12 @@
 --   other-number           another number of lists
 --   lost-2, .., lost-a2    the list of a law has another form
 --   six-kept               all have their form
-use Rattle.std.proofs.Common.{◌≡◌, ℕ, ◌*◌, ◌+◌, ◌<◌, List, [], ◌∷◌, length, get_or, Bool, true, false, ◌&&◌, ◌==◌, Option, Some, None, refl, sym, ap, ◌∙◌, arith}
-use Rattle.std.specs.List.{list_all}
+use Rattle.std.proofs.Common.{◌≡◌, ℕ, ◌<◌, List, [], ◌∷◌, length, get_or, Bool, true, false, ◌&&◌, ◌==◌, Some, None, refl, sym, ap, ◌∙◌, arith}
 use Rattle.std.proofs.lemmas.Bool.Decides.{nat_tests}
 use Rattle.std.proofs.lemmas.List.{get_or_read}
 use Rattle.rinv_defs.specs.System.{Poly}
 use Rattle.rinv_defs.specs.Laws.{Law, L2, L3, L4, L5, L6, A2}
-use Rattle.rinv_form.specs.Forms.{kept, are_stored}
+use Rattle.rinv_form.specs.Forms.{kept}
 use Rattle.rinv_form.specs.LawShapes.{is_law_list, are_law_lists}
 use Rattle.rinv_form.specs.declared.sizes.Sizes.{Sizes}
 use Rattle.rinv_form.proofs.Kept.{kept-some, kept-none, kept-holds}

@@ -1,4 +1,4 @@
-use Rattle.std.proofs.Common.{◌∙◌, sym, refl, arith}
+use Rattle.std.proofs.Common.{◌∙◌, sym, refl}
 use Rattle.rinv_cert.specs.Seen.{plain}
 use Rattle.rinv_cert.proofs.Same.{map-same}
 use Rattle.rinv_form.specs.ItemForms.{is_basis_form, is_pair_form, is_relation_form}

@@ -1,4 +1,4 @@
-use Rattle.std.proofs.Common.{◌∙◌, ◌++◌, sym, refl, arith}
+use Rattle.std.proofs.Common.{◌∙◌, ◌++◌, arith}
 use Rattle.std.proofs.lemmas.Result.{err_from_is_err_and}
 use Rattle.rinv_defs.specs.Format.{common_parts, law_parts, basis_parts}
 use Rattle.rinv_defs.proofs.Tests.{first_false-append}

@@ -1,4 +1,4 @@
-use Rattle.std.proofs.Common.{◌∙◌, sym, refl, ap}
+use Rattle.std.proofs.Common.{ap}
 use Rattle.std.proofs.lemmas.Result.{err_from_is_err_and}
 use Rattle.rinv_defs.specs.Certificate.{invariance, sound, full}
 use Rattle.rinv_cert.specs.Seen.{plain, kind_of}

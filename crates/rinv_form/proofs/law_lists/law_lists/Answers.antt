@@ -1,4 +1,4 @@
-use Rattle.std.proofs.Common.{◌≡◌, ◌∙◌, sym, ap, length, arith}
+use Rattle.std.proofs.Common.{◌∙◌, sym}
 use Rattle.rinv_form.proofs.LawTests.{other-number, lost-2, lost-3, lost-4, lost-5, lost-6, lost-a2, six-kept}
 use Rattle.rinv_form.proofs.law_lists.law_lists.Goals as goal
 
