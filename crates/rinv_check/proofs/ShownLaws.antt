@@ -1,7 +1,7 @@
 -- A law is shown by lists of cofactors and copies of the ideal as they are stored.
 --   lists-given      the lists have their form
 --   shown-by_parts   the law is shown where each part is
-use Rattle.std.proofs.Common.{◌≡◌, ℕ, ◌*◌, List, length, map, None, sym, ap, ◌∙◌}
+use Rattle.std.proofs.Common.{◌≡◌, ℕ, ◌*◌, List, length, map, None, ap, ◌∙◌}
 use Rattle.std.specs.Prelude.{flat_map}
 use Rattle.std.specs.List.{range_with_len}
 use Rattle.rinv_algebra.specs.Polynomial.{past}

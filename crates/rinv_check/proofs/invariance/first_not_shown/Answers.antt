@@ -14,7 +14,7 @@ returns-then-not-branch c =
     let us : List Poly = c.index-cofactors-k.result in
     let few : c.fractions.k < length c.args.cofactors.now = omega (arith, c.fractions-test.true, c.requires.as_many) in
     let here : c.in_ok-is_shown.field-0 ≡ invariance_is_shown (setting r.whole.coeffs r.group c.args.action.now c.args.ideal.now) f us = rw c.as_slice.ensures at c.in_ok-is_shown.ensures in
-    ap (λ (n : ℕ). Some n) ? ∙ sym (pairs-stop test c.args.fractions.now c.args.cofactors.now c.fractions.k f us c.fractions-test.true few c.index-fractions-k.is c.index-cofactors-k.is c.fractions.invariant (ap not (sym here ∙ c.if-not-branch.true)))
+    ap (λ (n : ℕ). Some n) c.in-Ok.ensures.1 ∙ sym (pairs-stop test c.args.fractions.now c.args.cofactors.now c.fractions.k f us c.fractions-test.true few c.index-fractions-k.is c.index-cofactors-k.is c.fractions.invariant (ap not (sym here ∙ c.if-not-branch.true)))
 
 pub fractions-preserved : goal.fractions-preserved
 fractions-preserved c =

@@ -1,9 +1,9 @@
-use Rattle.std.proofs.Common.{◌≡◌, ◌∙◌, ℕ, List, length, refl, sym, ap, subst}
+use Rattle.std.proofs.Common.{◌≡◌, ◌∙◌, length, refl, sym, ap, subst}
 use Rattle.rinv_text.specs.Told.{Told}
 use Rattle.rinv_text.proofs.SystemParts.{parts-of}
 use Rattle.rinv_form.proofs.FormParts.{form-system}
 use Rattle.rinv_cert.specs.Seen.{plain}
-use Rattle.rinv_defs.specs.System.{System, Poly, group_count}
+use Rattle.rinv_defs.specs.System.{System, group_count}
 use Rattle.rinv_defs.specs.SystemForm.{IsSystem}
 use Rattle.rinv_parts.specs.LawNames.{law_of}
 use Rattle.rinv_parts.specs.Parts.{IsLawRing}
