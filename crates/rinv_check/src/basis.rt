@@ -31,7 +31,9 @@ pub(crate) fn basis_failure(
             return Err(NoMemory);
         };
         let element = &basis[k];
-        if !vanishes_on_graph(alloc, graph, &element.h, element.cofactors.as_slice())? {
+        let cofactors = element.cofactors.as_slice();
+        let vanishes = vanishes_on_graph(alloc, graph, &element.h, cofactors)?;
+        if !vanishes {
             return Ok(Some(number));
         }
     }
@@ -58,7 +60,9 @@ pub(crate) fn inputs_failure(
         let Ok(number) = u32::try_from(k + 1) else {
             return Err(NoMemory);
         };
-        if !multiplies_out(alloc, &ring, &generators[k], inputs[k].as_slice(), elements)? {
+        let array = inputs[k].as_slice();
+        let holds = multiplies_out(alloc, &ring, &generators[k], array, elements)?;
+        if !holds {
             return Ok(Some(number));
         }
     }
