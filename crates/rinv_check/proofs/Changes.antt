@@ -10,7 +10,7 @@ use Rattle.std.proofs.lemmas.List.Elements.{All-nil, All-cons}
 use Rattle.rinv_algebra.proofs.Same.{both}
 use Rattle.std.specs.Prelude.{nat_lt, ◌==◌}
 use Rattle.std.proofs.lemmas.Bool.Decides.{nat_tests}
-use Rattle.rinv_check.specs.Forms.{is_stored, are_stored}
+use Rattle.rinv_form.specs.Forms.{is_stored, are_stored}
 use Rattle.std.proofs.lemmas.List.{length-replicate}
 use Rattle.rinv_sub.proofs.Sums.{take-at}
 use Rattle.rinv_algebra.specs.Ring.{RingOps, RingLaws, IsSame}

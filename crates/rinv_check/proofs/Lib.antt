@@ -1,6 +1,4 @@
-pub mod StoredLists
-pub mod StoredPolynomials
-pub mod FirstPart
-pub mod Kept
+pub mod FirstFailures
+pub mod LawFits
 pub mod Changes
-pub mod FirstFailure
+pub mod FractionSettings

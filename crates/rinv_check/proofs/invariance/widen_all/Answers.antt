@@ -1,6 +1,6 @@
 use Rattle.std.proofs.Common.{IsTrue, arith}
 use Rattle.std.proofs.lemmas.List.Elements.{All-push}
-use Rattle.rinv_check.specs.Forms.{is_stored}
+use Rattle.rinv_form.specs.Forms.{is_stored}
 use Rattle.rinv_check.proofs.Changes.{AreSame-push}
 use Rattle.rinv_check.proofs.invariance.widen_all.Goals as goal
 

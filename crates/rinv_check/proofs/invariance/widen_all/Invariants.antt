@@ -1,5 +1,5 @@
 use Rattle.std.proofs.Common.{All, take, IsTrue}
-use Rattle.rinv_check.specs.Forms.{is_stored}
+use Rattle.rinv_form.specs.Forms.{is_stored}
 use Rattle.rinv_check.specs.Setting.{AreSame}
 use Rattle.rinv_check.proofs.invariance.widen_all.Given as goal
 

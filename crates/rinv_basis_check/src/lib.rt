@@ -1,0 +1,22 @@
+//! The conditions on the basis of a full certificate: its pairs, its relations and their leads. Nothing is divided or searched.
+//!
+//! - `Basis`, `basis_of`: the elements with their leading monomials
+//! - `pairs_failure`: the basis is a Gröbner basis, as its pairs show
+//! - `relations_failure`, `leads_failure`: the relations hold on the graph, and cover the basis
+#![tactic(auto)]
+
+mod basis;
+mod entry;
+mod leads;
+mod listed_pairs;
+mod pairs;
+mod quotients;
+mod relation;
+mod relations;
+mod tied;
+
+pub use basis::{Basis, basis_of};
+pub use leads::leads_failure;
+pub use listed_pairs::{ListedPairs, are_all_listed};
+pub use pairs::pairs_failure;
+pub use relations::relations_failure;
