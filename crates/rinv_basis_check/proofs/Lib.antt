@@ -1,3 +1,15 @@
 pub mod Ranges
 pub mod PairEntries
 pub mod EntryForms
+pub mod LeadingTerms
+pub mod BasisElements
+pub mod PairMultiples
+pub mod Combinations
+pub mod PairReductions
+pub mod TiedCoefficients
+pub mod RelationTerms
+pub mod RelationSums
+pub mod TailTests
+pub mod LeadTests
+pub mod ValuesOfSame
+pub mod RelationForms

@@ -15,7 +15,8 @@ ghost use Rattle.rinv_form.specs.ItemForms.{is_relation_form};
 ghost use Rattle.rinv_identities.specs.Graphs.{IsGraph};
 ghost use Rattle.rinv_basis_check.specs.Relations.{tails_are};
 
-use crate::relation::{RelationRings, relation_polynomial, relation_rings};
+use crate::relation::relation_polynomial;
+use crate::rings::{RelationRings, relation_rings};
 use crate::tied::is_tied_to;
 use rinv_cert::{CertificateOf, Items, Kind, RelationItem};
 use rinv_form::{Sizes, sizes_in};

@@ -1,0 +1,90 @@
+-- The terms of a relation, as they are made.
+--   power-same               a monomial with zeros behind it
+--   term-fits, term-value    the product with one term as it is stored
+--   power-degree, power-length, power-normal    Z to some exponents
+use Rattle.std.proofs.Common.{◌≡◌, ℕ, zero, suc, ◌+◌, ◌*◌, ◌<◌, Bool, true, false, ◌&&◌, List, [], ◌∷◌, ◌++◌, length, map, replicate, get_or, take, sum, refl, sym, ap, ap₂, ◌∙◌, subst, arith, append-nil, ◌==◌, ◌≤◌, nat_lt, inl, inr}
+use Rattle.std.proofs.lemmas.Bool.Decides.{nat_tests}
+use Rattle.std.specs.List.{list_all}
+use Rattle.std.proofs.lemmas.Bool.{cases_Bool}
+use Rattle.std.proofs.lemmas.List.{length-append, length-replicate}
+use Rattle.std.proofs.lemmas.List.Sums.{sum_by-append}
+use Rattle.std.proofs.lemmas.List.Folds.{sum_by-replicate}
+use Rattle.rinv_algebra.specs.Ring.{IsSame}
+use Rattle.rinv_algebra.specs.Residue.{residue_ops}
+use Rattle.rinv_algebra.specs.Monomial.{same_monomial, total_degree, max_degree}
+use Rattle.rinv_algebra.specs.Normal.{is_normal_term}
+use Rattle.rinv_algebra.specs.Polynomial.{Term, poly_ops, product, term_product, difference, opposite}
+use Rattle.rinv_algebra.specs.Fits.{product_fits}
+use Rattle.rinv_algebra.proofs.Degrees.{product_fits-same}
+use Rattle.rinv_algebra.proofs.PolynomialLaws.{poly_laws}
+use Rattle.rinv_algebra.proofs.ResidueLaws.{residue_laws}
+use Rattle.rinv_algebra.proofs.ResidueField.{residue_field_laws}
+use Rattle.rinv_poly.proofs.Forms.{test-from_term}
+use Rattle.rinv_poly.proofs.Gather.{same-then, same-equal, same-refl, append-same}
+use Rattle.rinv_poly.proofs.Units.{term-same_monomial}
+use Rattle.rinv_defs.specs.System.{Poly}
+
+-- zeros behind the exponents change nothing
+zeros-behind : (a : List ℕ) (n : ℕ) → same_monomial (a ++ replicate n 0) a ≡ true
+unfolding same_monomial
+zeros-behind [] zero = refl
+zeros-behind [] (suc n) = zeros-behind [] n
+zeros-behind (x ∷ a) n = rw (same-number x) (zeros-behind a n)
+  where
+    same-number : (x : ℕ) → (x == x) ≡ true
+    same-number x = grind (arith, nat_tests)
+
+module _ (p : ℕ) (a : List ℕ) (m : List ℕ) (n : ℕ) (t : Poly) (is_m : m ≡ a ++ replicate n 0) (is : IsSame (poly_ops (residue_ops p)) t ((m, 1) ∷ [])) where
+  -- Z to the exponents
+  pub power-same : IsSame (poly_ops (residue_ops p)) t ((a, 1) ∷ [])
+  power-same =
+      same-then (residue_ops p) (residue_laws p) t ((m, 1) ∷ []) ((a, 1) ∷ []) is
+      (term-same_monomial (residue_ops p) (residue_laws p) m a 1 (subst (λ (b : List ℕ). same_monomial b a ≡ true) (sym is_m) (zeros-behind a n)))
+
+module _ (p : ℕ) (u : Term ℕ) (t f : Poly) (is : IsSame (poly_ops (residue_ops p)) t (u ∷ [])) where
+  -- the product with one term as it is stored
+  pub term-fits : product_fits (residue_ops p) t f ≡ product_fits (residue_ops p) (u ∷ []) f
+  term-fits = product_fits-same (residue_ops p) (residue_laws p) t (u ∷ []) f f is (same-refl (residue_ops p) (residue_laws p) f)
+
+  pub term-value : (r : Poly) → IsSame (poly_ops (residue_ops p)) r (product (residue_ops p) t f) → IsSame (poly_ops (residue_ops p)) r (term_product (residue_ops p) u f)
+  unfolding product
+  term-value r e =
+      let o = residue_ops p in
+      let l = residue_laws p in
+      same-then o l r (product o t f) (term_product o u f) e
+      (same-then o l (product o t f) (product o (u ∷ []) f) (term_product o u f) ((poly_laws o l).mul_same t (u ∷ []) f f is (same-refl o l f)) (same-equal o l (product o (u ∷ []) f) (term_product o u f) (append-nil (term_product o u f))))
+
+-- ---- Z to some exponents
+
+pub power-degree : (g n : ℕ) (a : List ℕ) → total_degree ((replicate g 0 ++ a) ++ replicate n 0) ≡ total_degree a
+power-degree g n a =
+    let whole = sum_by-append (λ (y : ℕ). y) (replicate g 0 ++ a) (replicate n 0) in
+    let front = sum_by-append (λ (y : ℕ). y) (replicate g 0) a in
+    let before = sum_by-replicate (λ (y : ℕ). y) g 0 in
+    let behind = sum_by-replicate (λ (y : ℕ). y) n 0 in
+    omega (arith, whole, front, before, behind)
+
+pub power-length : (g n : ℕ) (a : List ℕ) → length ((replicate g 0 ++ a) ++ replicate n 0) ≡ g + length a + n
+power-length g n a =
+    let zeros : List ℕ = replicate g 0 in
+    let others : List ℕ = replicate n 0 in
+    let whole = length-append (zeros ++ a) others in
+    let front = length-append zeros a in
+    let before : length zeros ≡ g = length-replicate g 0 in
+    let behind : length others ≡ n = length-replicate n 0 in
+    omega (arith, whole, front, before, behind)
+
+-- one is not zero
+one-nonzero : (p : ℕ) → (residue_ops p).same 1 0 ≡ false
+one-nonzero p = elim (cases_Bool ((residue_ops p).same 1 0)) [
+  | inl zero ↦ absurd ((residue_field_laws p).one_differs zero)
+  | inr off ↦ off
+]
+
+-- the term with the coefficient 1 is in the form in which it is stored
+pub power-normal : (p v : ℕ) (m : List ℕ) → 2 ≤ p → length m ≡ v → total_degree m ≤ max_degree → is_normal_term (residue_ops p) (λ c. nat_lt c p) v (m, 1) ≡ true
+power-normal p v m two vars low =
+    test-from_term (residue_ops p) (λ c. nat_lt c p) v (m, 1) (record { coefficient = below; nonzero = one-nonzero p; vars = vars; low = low })
+  where
+    below : nat_lt 1 p ≡ true
+    below = grind (arith, nat_tests, two)
