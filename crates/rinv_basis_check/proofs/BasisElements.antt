@@ -2,10 +2,10 @@
 --   elements-normal, elements-nonzero    what the form of a certificate says of its elements
 --   block-sizes                          the blocks of the order
 --   element-is, lead-is                  the element with a number, and its leading monomial
-use Rattle.std.proofs.Common.{◌≡◌, ℕ, ◌+◌, ◌-◌, ◌*◌, ◌<◌, ◌≤◌, Bool, true, false, List, [], ◌∷◌, length, get_or, map, All, None, refl, sym, ap, ap₂, ◌∙◌, arith, nat_lt}
+use Rattle.std.proofs.Common.{◌≡◌, ℕ, ◌+◌, ◌-◌, ◌*◌, ◌<◌, ◌≤◌, Bool, true, false, List, [], ◌∷◌, ◌++◌, length, get_or, map, take, All, None, refl, sym, ap, ap₂, ◌∙◌, arith, nat_lt}
 use Rattle.std.specs.List.{list_all}
 use Rattle.std.proofs.lemmas.Bool.{not-true}
-use Rattle.std.proofs.lemmas.List.{get_or-map}
+use Rattle.std.proofs.lemmas.List.{get_or-map, map_more}
 use Rattle.std.proofs.lemmas.List.Elements.{All-nil, All-cons}
 use Rattle.std.proofs.lemmas.Option.{unwrap_or-slice_get}
 use Rattle.rinv_algebra.specs.Residue.{residue_ops}
@@ -75,3 +75,7 @@ lead-is c b is k n m at inside here =
     let few : k < length b.elements.items = omega (arith, inside, ap length b.leading, length-map lead b.elements.items) in
     here ∙ ap (λ (ms : List (List ℕ)). get_or ms k m) b.leading ∙ get_or-map lead b.elements.items k [] m few ∙ ap lead (element-is c b.elements.items is.elements k n at)
     ∙ ap₂ (λ (p : ℕ) (sizes : List ℕ). leading_monomial (residue_ops p) (block_order sizes) (element c n)) is.field (ap (sizes_from 0) is.ends ∙ block-sizes (group_count c.system) (space_count c.system))
+
+-- one leading monomial more
+pub leads-more : (lead : Poly → List ℕ) (es : List Poly) (k : ℕ) (e : Poly) (ms : List (List ℕ)) (m : List ℕ) → k < length es → e ≡ get_or es k e → m ≡ lead e → ms ≡ map lead (take k es) → ms ++ m ∷ [] ≡ map lead (take (k + 1) es)
+leads-more lead es k e ms m few at is so_far = ap₂ (λ (xs : List (List ℕ)) (x : List ℕ). xs ++ x ∷ []) so_far (is ∙ ap lead at) ∙ sym (map_more lead es k e few)

@@ -8,7 +8,7 @@ use Rattle.std.proofs.Common.{◌≡◌, ℕ, zero, suc, ◌+◌, ◌-◌, ◌<�
 use Rattle.std.specs.Prelude.{nat_le}
 use Rattle.std.specs.List.{list_all, list_any}
 use Rattle.std.proofs.lemmas.Bool.Decides.{nat_tests}
-use Rattle.std.proofs.lemmas.List.{drop_all, take_more, get_or-take, get_or-drop}
+use Rattle.std.proofs.lemmas.List.{drop_all, take_more, get_or-take, get_or-drop, length-drop, length-take-le}
 use Rattle.std.proofs.lemmas.List.Folds.{list_any-map}
 use Rattle.std.proofs.lemmas.List.Sums.{sum_by-append, sum_by-cons, sum_by-take-le}
 use Rattle.rinv_algebra.specs.Residue.{residue_ops}
@@ -18,6 +18,7 @@ use Rattle.rinv_algebra.proofs.ResidueLaws.{residue_laws}
 use Rattle.rinv_poly.proofs.Forms.{ordered-from_normal}
 use Rattle.rinv_poly.proofs.NormalFacts.{monomials-ordered}
 use Rattle.rinv_defs.specs.System.{Poly}
+use Rattle.rinv_defs.proofs.PartCounts.{length-map}
 use Rattle.rinv_form.specs.Forms.{is_stored}
 use Rattle.rinv_basis_check.proofs.Combinations.{drop-at}
 
@@ -60,6 +61,9 @@ monomial-at f k d few = rw (add-one) (step f k few)
     step (t ∷ f) zero few = refl
     step (t ∷ f) (suc k) few = step f k (omega (arith, few))
 
+pub monomials-past : (f : Poly) (k : ℕ) → length f ≤ k → length (map (λ t. t.0) f) ≤ k
+monomials-past f k h = rw (length-map (λ (t : Term ℕ). t.0) f) h
+
 -- ---- one exponent after another
 
 pub divides-step : (a b : List ℕ) (k x y : ℕ) → k < length a → k < length b → x ≡ get_or a k 0 → y ≡ get_or b k 0 → divides (drop k a) (drop k b) ≡ (nat_le x y && divides (drop (k + 1) a) (drop (k + 1) b))
@@ -87,3 +91,29 @@ module _ {A : Type 0} (test : A → Bool) (xs : List A) (k : ℕ) where
 
   pub any-end : length xs ≤ k → list_any test (drop k xs) ≡ list_any test xs → false ≡ list_any test xs
   any-end past h = sym (ap (list_any test) (drop_all k xs past)) ∙ h
+
+-- ---- the exponents of Z
+
+module _ (es m : List ℕ) (g k : ℕ) where
+  z-step : (x : ℕ) → g + length es ≤ length m → k < length es → x ≡ get_or m (g + k) 0
+      → divides (drop k es) (drop k (take (length es) (drop g m))) ≡ (nat_le (get_or es k 0) x && divides (drop (k + 1) es) (drop (k + 1) (take (length es) (drop g m))))
+  z-step x long few at =
+      let rest : length (drop g m) ≡ length m - g = length-drop g m in
+      let whole : length (take (length es) (drop g m)) ≡ length es = length-take-le (length es) (drop g m) (omega (arith, rest, long)) in
+      let here : get_or (take (length es) (drop g m)) k 0 ≡ get_or m (g + k) 0 = get_or-take (length es) (drop g m) k 0 few ∙ get_or-drop g m k 0 in
+      divides-step es (take (length es) (drop g m)) k (get_or es k 0) x few (omega (arith, whole, few)) refl (at ∙ sym here)
+
+  pub z-over : (x : ℕ) → g + length es ≤ length m → k < length es → x ≡ get_or m (g + k) 0 → x < get_or es k 0
+      → divides (drop k es) (drop k (take (length es) (drop g m))) ≡ divides es (take (length es) (drop g m)) → false ≡ divides es (take (length es) (drop g m))
+  z-over x long few at over h =
+      let off : nat_le (get_or es k 0) x ≡ false = grind (arith, nat_tests, over) in
+      sym (ap (λ (b : Bool). b && divides (drop (k + 1) es) (drop (k + 1) (take (length es) (drop g m)))) off) ∙ sym (z-step x long few at) ∙ h
+
+  pub z-within : (x : ℕ) → g + length es ≤ length m → k < length es → x ≡ get_or m (g + k) 0 → get_or es k 0 ≤ x
+      → divides (drop k es) (drop k (take (length es) (drop g m))) ≡ divides es (take (length es) (drop g m)) → divides (drop (k + 1) es) (drop (k + 1) (take (length es) (drop g m))) ≡ divides es (take (length es) (drop g m))
+  z-within x long few at low h =
+      let on : nat_le (get_or es k 0) x ≡ true = grind (arith, nat_tests, low) in
+      sym (ap (λ (b : Bool). b && divides (drop (k + 1) es) (drop (k + 1) (take (length es) (drop g m)))) on) ∙ sym (z-step x long few at) ∙ h
+
+  pub z-end : length es ≤ k → divides (drop k es) (drop k (take (length es) (drop g m))) ≡ divides es (take (length es) (drop g m)) → true ≡ divides es (take (length es) (drop g m))
+  z-end past h = sym (divides-end es (drop k (take (length es) (drop g m))) k past) ∙ h

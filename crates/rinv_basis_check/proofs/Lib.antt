@@ -13,3 +13,7 @@ pub mod TailTests
 pub mod LeadTests
 pub mod ValuesOfSame
 pub mod RelationForms
+pub mod StoredElements
+pub mod CoveredLeads
+pub mod MultiplierTerms
+pub mod EntryTests

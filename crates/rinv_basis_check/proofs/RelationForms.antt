@@ -2,11 +2,13 @@
 --   relation-form       each relation has its form
 --   fractions-stored    the fractions are stored
 --   shown-is            whether a relation is shown, by the tests in their order
-use Rattle.std.proofs.Common.{◌≡◌, ℕ, ◌<◌, Bool, true, false, not, ◌&&◌, List, [], ◌∷◌, length, map, get_or, None, refl, sym, ap, ap₂, ◌∙◌, subst, IsTrue}
+use Rattle.std.proofs.Common.{◌≡◌, ℕ, ◌<◌, Bool, true, false, not, ◌&&◌, List, [], ◌∷◌, length, map, get_or, ◌==◌, None, refl, sym, ap, ap₂, ◌∙◌, subst, IsTrue}
 use Rattle.std.specs.List.{list_all}
 use Rattle.rinv_algebra.specs.Residue.{residue_ops}
 use Rattle.rinv_algebra.specs.Polynomial.{is_zero}
 use Rattle.rinv_algebra.specs.Fits.{product_fits}
+use Rattle.rinv_algebra.proofs.Same.{both}
+use Rattle.rinv_defs.proofs.Tests.{list_all-implies}
 use Rattle.rinv_defs.specs.System.{System, Poly, space_count}
 use Rattle.rinv_defs.specs.SystemForm.{is_good, is_nonzero}
 use Rattle.rinv_defs.specs.Invariant.{Fraction}
@@ -21,7 +23,7 @@ use Rattle.rinv_cert.proofs.Same.{map-same}
 use Rattle.rinv_form.specs.declared.sizes.Sizes.{Sizes}
 use Rattle.rinv_form.specs.Sized.{IsSized}
 use Rattle.rinv_form.specs.Forms.{is_stored_fraction}
-use Rattle.rinv_form.specs.ItemForms.{is_relation_form}
+use Rattle.rinv_form.specs.ItemForms.{is_relation_form, are_exponents}
 use Rattle.rinv_form.proofs.FormParts.{form-fractions, form-relations}
 use Rattle.rinv_form.proofs.SeenForms.{relation-forms}
 use Rattle.rinv_basis_check.specs.Relations.{relation_fits, tails_are}
@@ -76,3 +78,12 @@ unfolding relation_is_shown
 shown-is c r =
     ap (λ (b : Bool). product_fits (residue_ops c.system.p) (z_power c.system r.a ∷ []) (behind_z c.system r.d) && b && vanishes_on_graph c.system (relation_of c.system r) r.cofactors) (tails-parted c r r.tail)
     ∙ grouped (product_fits (residue_ops c.system.p) (z_power c.system r.a ∷ []) (behind_z c.system r.d)) (list_all (λ t. product_fits (residue_ops c.system.p) (z_power c.system t.alpha ∷ []) (behind_z c.system t.c)) r.tail) (tails_are c r) (vanishes_on_graph c.system (relation_of c.system r) r.cofactors)
+
+-- the leads of relations have an exponent for each space variable
+pub relation-leads : (c : CertificateOf Poly) (z : Sizes) → IsSized (plain c) z → (plain c).kind ≡ full → format_failure (plain c) ≡ None → (rs : List (List ℕ × Poly × List (List ℕ × Poly × Tied) × List Poly)) → rs ≡ c.relations → list_all (λ r. length r.0 == z.space) rs ≡ true
+relation-leads c z is kind form rs e =
+    rw e
+    (list_all-implies (is_relation_form z) (λ r. length r.0 == z.space) first c.relations (sym (relation-forms (plain c) z is c.relations) ∙ form-relations (plain c) kind form))
+  where
+    first : (r : List ℕ × Poly × List (List ℕ × Poly × Tied) × List Poly) → is_relation_form z r ≡ true → (length r.0 == z.space) ≡ true
+    first r h = (both (length r.0 == z.space) _ (both (are_exponents z.space r.0) _ h).0).0

@@ -42,6 +42,8 @@ fn multiple(
 {
     let ring = &basis.ring;
     let mono = common.quotient(alloc, &basis.leads[f])?;
+    // Its degree is within the limit.
+    let _degree = mono.degree();
     let Some(place) = ring.lead(&basis.elements[g], &basis.order) else {
         unreachable!()
     };

@@ -78,7 +78,8 @@ pub(crate) fn relation_polynomial(
     let tail = relation.tail.as_slice();
     let mut summands = Vec::new(alloc);
     'tail: for k in 0..tail.len() {
-        let Some(summand) = multiple(alloc, rings, tail[k].alpha.as_slice(), &tail[k].c)? else {
+        let term = &tail[k];
+        let Some(summand) = multiple(alloc, rings, term.alpha.as_slice(), &term.c)? else {
             return Ok(None);
         };
         summands.push(summand)?;
