@@ -36,7 +36,7 @@ module _ (c : Certificate) (earlier : List Item) (e : PairItem Poly) where
       → (divides d (lcm a b) && is_listed listed i k && is_listed listed k j) ≡ settles c earlier (pair_item_by (λ f. f) e)
   unfolding settles
   chain-settles listed pairs i j k a b d is ea eb ed =
-      ap₂ (λ (x y : Bool). x && y) (ap₂ divides ed (ap₂ lcm ea eb)) (ap₂ (λ (x y : Bool). x && y) (pairs i k) (pairs k j)) ∙ ap (λ u. settles c earlier (pair_item_by (λ f. f) u)) (sym is)
+      ap₂ (λ (x y : Bool). x && y) (ap₂ (λ (x y : Bool). x && y) (ap₂ divides ed (ap₂ lcm ea eb)) (pairs i k)) (pairs k j) ∙ ap (λ u. settles c earlier (pair_item_by (λ f. f) u)) (sym is)
 
   pub quotients-settle : (basis : Basis) → is_pair_form_in basis e ≡ true → (i j : ℕ) (q qs : List Poly) → e ≡ Quotients i j q → qs ≡ q → reduces_to_zero c (element c (i - 1 + 1)) (element c (j - 1 + 1)) qs ≡ settles c earlier (pair_item_by (λ f. f) e)
   unfolding settles

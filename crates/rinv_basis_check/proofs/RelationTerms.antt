@@ -2,10 +2,13 @@
 --   power-same               a monomial with zeros behind it
 --   term-fits, term-value    the product with one term as it is stored
 --   power-degree, power-length, power-normal    Z to some exponents
-use Rattle.std.proofs.Common.{◌≡◌, ℕ, zero, suc, ◌+◌, ◌*◌, ◌<◌, Bool, true, false, ◌&&◌, List, [], ◌∷◌, ◌++◌, length, map, replicate, get_or, take, sum, refl, sym, ap, ap₂, ◌∙◌, subst, arith, append-nil, ◌==◌, ◌≤◌, nat_lt, inl, inr}
+--   made-length, made-normal, made-same         as it is made
+--   behind-fits, behind-value                   its product with a polynomial in the space's variables
+use Rattle.std.proofs.Common.{◌≡◌, ℕ, zero, suc, ◌+◌, ◌*◌, ◌<◌, Bool, true, false, ◌&&◌, List, [], ◌∷◌, ◌++◌, length, map, replicate, get_or, take, sum, refl, sym, ap, ap₂, ◌∙◌, subst, arith, append-nil, ◌==◌, ◌≤◌, nat_lt, inl, inr, All, IsTrue}
 use Rattle.std.proofs.lemmas.Bool.Decides.{nat_tests}
 use Rattle.std.specs.List.{list_all}
 use Rattle.std.proofs.lemmas.Bool.{cases_Bool}
+use Rattle.std.proofs.lemmas.List.Elements.{All-nil, All-cons}
 use Rattle.std.proofs.lemmas.List.{length-append, length-replicate}
 use Rattle.std.proofs.lemmas.List.Sums.{sum_by-append}
 use Rattle.std.proofs.lemmas.List.Folds.{sum_by-replicate}
@@ -13,7 +16,7 @@ use Rattle.rinv_algebra.specs.Ring.{IsSame}
 use Rattle.rinv_algebra.specs.Residue.{residue_ops}
 use Rattle.rinv_algebra.specs.Monomial.{same_monomial, total_degree, max_degree}
 use Rattle.rinv_algebra.specs.Normal.{is_normal_term}
-use Rattle.rinv_algebra.specs.Polynomial.{Term, poly_ops, product, term_product, difference, opposite}
+use Rattle.rinv_algebra.specs.Polynomial.{Term, poly_ops, product, term_product, past}
 use Rattle.rinv_algebra.specs.Fits.{product_fits}
 use Rattle.rinv_algebra.proofs.Degrees.{product_fits-same}
 use Rattle.rinv_algebra.proofs.PolynomialLaws.{poly_laws}
@@ -22,7 +25,12 @@ use Rattle.rinv_algebra.proofs.ResidueField.{residue_field_laws}
 use Rattle.rinv_poly.proofs.Forms.{test-from_term}
 use Rattle.rinv_poly.proofs.Gather.{same-then, same-equal, same-refl, append-same}
 use Rattle.rinv_poly.proofs.Units.{term-same_monomial}
-use Rattle.rinv_defs.specs.System.{Poly}
+use Rattle.rinv_defs.specs.System.{System, Poly}
+use Rattle.rinv_defs.specs.RelationConditions.{z_power, behind_z}
+use Rattle.rinv_form.specs.ItemForms.{are_exponents}
+use Rattle.rinv_basis_check.specs.declared.rings.RelationRings.{RelationRings}
+use Rattle.rinv_basis_check.specs.Relations.{AreRingsOf}
+use Rattle.rinv_basis_check.proofs.RelationForms.{exponents-count, exponents-low}
 
 -- zeros behind the exponents change nothing
 zeros-behind : (a : List ℕ) (n : ℕ) → same_monomial (a ++ replicate n 0) a ≡ true
@@ -88,3 +96,45 @@ power-normal p v m two vars low =
   where
     below : nat_lt 1 p ≡ true
     below = grind (arith, nat_tests, two)
+
+-- the monomial as it is made
+module _ (g n : ℕ) (es m : List ℕ) (h : are_exponents n es ≡ true) (is : m ≡ (replicate g 0 ++ es) ++ replicate (length es) 0) where
+  pub made-length : (v : ℕ) → v ≡ g + n + n → length m ≡ v
+  made-length v e =
+      let count = exponents-count n es h in
+      let whole = ap length is ∙ power-length g (length es) es in
+      omega (arith, whole, count, e)
+
+  pub made-low : total_degree m ≤ max_degree
+  made-low =
+      let low = exponents-low n es h in
+      let same = ap (λ (a : List ℕ). total_degree a) is ∙ power-degree g (length es) es in
+      omega (arith, low, same)
+
+  pub made-normal : (p v : ℕ) → v ≡ g + n + n → 2 ≤ p → (ts : Poly) → ts ≡ (m, 1) ∷ [] → All (λ (t : Term ℕ). IsTrue (is_normal_term (residue_ops p) (λ c. nat_lt c p) v t)) ts
+  made-normal p v e two ts is_ts =
+      subst (All (λ (t : Term ℕ). IsTrue (is_normal_term (residue_ops p) (λ c. nat_lt c p) v t))) (sym is_ts)
+      (All-cons (λ (t : Term ℕ). IsTrue (is_normal_term (residue_ops p) (λ c. nat_lt c p) v t)) (m, 1) [] (power-normal p v m two (made-length v e) made-low) (All-nil (λ (t : Term ℕ). IsTrue (is_normal_term (residue_ops p) (λ c. nat_lt c p) v t))))
+
+  pub made-same : (p : ℕ) (t ts : Poly) → ts ≡ (m, 1) ∷ [] → IsSame (poly_ops (residue_ops p)) t ts → IsSame (poly_ops (residue_ops p)) t ((replicate g 0 ++ es, 1) ∷ [])
+  made-same p t ts is_ts same = power-same p (replicate g 0 ++ es) m (length es) t is (subst (λ (us : Poly). IsSame (poly_ops (residue_ops p)) t us) is_ts same)
+
+-- ---- a product of Z to some exponents and a polynomial in the space's variables, in the rings of a system
+
+module _ (s : System) (r : RelationRings) (are : AreRingsOf s r) (es : List ℕ) (f power behind : Poly) (n : ℕ) (en : n ≡ r.space.vars)
+    (is_power : IsSame (poly_ops (residue_ops r.graph.coeffs)) power ((replicate r.group 0 ++ es, 1) ∷ [])) (is_behind : behind ≡ past (r.group + n) f) where
+  moved : IsSame (poly_ops (residue_ops s.p)) power (z_power s es ∷ [])
+  moved =
+      subst (λ (p : ℕ). IsSame (poly_ops (residue_ops p)) power (z_power s es ∷ [])) are.field
+      (subst (λ (g : ℕ). IsSame (poly_ops (residue_ops r.graph.coeffs)) power ((replicate g 0 ++ es, 1) ∷ [])) are.group is_power)
+
+  here : behind ≡ behind_z s f
+  here = is_behind ∙ ap₂ (λ (g m : ℕ). past (g + m) f) are.group (en ∙ are.space)
+
+  pub behind-fits : product_fits (residue_ops r.graph.coeffs) power behind ≡ product_fits (residue_ops s.p) (z_power s es ∷ []) (behind_z s f)
+  behind-fits = ap₂ (λ (p : ℕ) (b : Poly). product_fits (residue_ops p) power b) are.field here ∙ term-fits s.p (z_power s es) power (behind_z s f) moved
+
+  pub behind-value : (t : Poly) → IsSame (poly_ops (residue_ops r.graph.coeffs)) t (product (residue_ops r.graph.coeffs) power behind) → IsSame (poly_ops (residue_ops s.p)) t (term_product (residue_ops s.p) (z_power s es) (behind_z s f))
+  behind-value t e =
+      term-value s.p (z_power s es) power (behind_z s f) moved t
+      (subst (λ (b : Poly). IsSame (poly_ops (residue_ops s.p)) t (product (residue_ops s.p) power b)) here (subst (λ (p : ℕ). IsSame (poly_ops (residue_ops p)) t (product (residue_ops p) power behind)) are.field e))

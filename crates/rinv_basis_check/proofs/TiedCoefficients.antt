@@ -2,8 +2,10 @@
 --   same-right                                      a comparison depends on the coefficients alone
 --   constant-tied                                   a constant
 --   first-misfits, second-misfits, fraction-tied    a fraction
---   fraction-is                                     the fraction with a number
-use Rattle.std.proofs.Common.{◌≡◌, ℕ, ◌+◌, ◌-◌, ◌≤◌, Bool, true, false, ◌&&◌, List, [], ◌∷◌, get_or, refl, sym, ap, ◌∙◌, subst, arith, nat_lt, IsTrue}
+--   fraction-is, fraction-stored                    the fraction with a number
+use Rattle.std.proofs.Common.{◌≡◌, ℕ, ◌+◌, ◌-◌, ◌<◌, ◌≤◌, length, Bool, true, false, ◌&&◌, List, [], ◌∷◌, get_or, refl, sym, ap, ◌∙◌, subst, arith, nat_lt, IsTrue}
+use Rattle.std.specs.List.{list_all}
+use Rattle.std.proofs.lemmas.Bool.Decides.{nat_tests}
 use Rattle.std.proofs.lemmas.List.{get_or_default}
 use Rattle.std.proofs.lemmas.List.Elements.{All-nil, All-cons, All-weaker}
 use Rattle.std.proofs.lemmas.Option.{unwrap_or-slice_get}
@@ -23,7 +25,11 @@ use Rattle.rinv_defs.specs.RelationConditions.{fraction_at, is_tied_to}
 use Rattle.rinv_poly.specs.Terms.{FitWith}
 use Rattle.rinv_poly.proofs.Degrees.{product_fits-from_terms}
 use Rattle.rinv_poly.proofs.Forms.{IsNormalTerm, ordered-from_normal}
-use Rattle.rinv_form.specs.Forms.{is_stored}
+use Rattle.rinv_cert.specs.declared.certificate.Tied.{Tied}
+use Rattle.rinv_cert.specs.declared.certificate.Tied.TheVariants.{Constant, Generator}
+use Rattle.rinv_form.specs.Forms.{is_stored, is_stored_fraction}
+use Rattle.rinv_basis_check.specs.Relations.{is_tied_among}
+use Rattle.rinv_basis_check.proofs.PairEntries.{test_at}
 
 module _ (p : ℕ) where
   -- a comparison depends on the coefficients of the second alone
@@ -75,3 +81,10 @@ module _ (c : Certificate) (p : ℕ) (e : p ≡ c.system.p) (d u : Poly) (f : Fr
 pub fraction-is : (c : Certificate) (fs : List Fraction) → fs ≡ c.fractions → (k n : ℕ) (f : Fraction) → n ≡ k - 1 → n < length fs → f ≡ get_or fs n f → f ≡ fraction_at c k
 fraction-is c fs e k n f at inside here =
     here ∙ get_or_default fs n f ([], []) inside ∙ ap (λ (gs : List Fraction). get_or gs n ([], [])) e ∙ ap (λ (i : ℕ). get_or c.fractions i ([], [])) at ∙ sym (unwrap_or-slice_get c.fractions (k - 1) ([], []))
+
+pub fraction-stored : (p v : ℕ) (fs : List Fraction) → IsTrue (list_all (is_stored_fraction p v) fs) → (n : ℕ) (f : Fraction) → n < length fs → f ≡ get_or fs n f → IsTrue (is_stored_fraction p v f)
+fraction-stored p v fs stored n f inside here = test_at (is_stored_fraction p v) fs n f inside here stored
+
+-- the number of a fraction is among them
+pub among-inside : (p count k : ℕ) (t : Tied) → is_tied_among p count t ≡ true → t ≡ Generator k → k - 1 < count
+among-inside p count k t h e = let here : is_tied_among p count (Generator k) ≡ true = sym (ap (is_tied_among p count) e) ∙ h in grind (arith, nat_tests, here)

@@ -1,6 +1,6 @@
 //! The rings of a relation.
 
-ghost use Rattle.std.specs.Prelude.{◌≡◌, ◌+◌};
+ghost use Rattle.std.specs.Prelude.{◌≡◌, ◌<◌, ◌+◌, ◌^◌};
 
 use rinv_form::Sizes;
 use rinv_poly::PolyRing;
@@ -14,6 +14,7 @@ pub(crate) struct RelationRings {
     pub(crate) graph: PolyRing<Gf>,
     ghost field: { space.coeffs ≡ graph.coeffs },
     ghost vars: { graph.vars ≡ group + space.vars + space.vars },
+    ghost few: { group + space.vars + space.vars < 2 ^ 32 },
 }
 
 /// The rings of a certificate with these sizes.

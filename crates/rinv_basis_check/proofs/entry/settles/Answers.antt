@@ -19,7 +19,7 @@ returns-then-has c = λ cert earlier is pairs.
     elim c.if-divides.branch [
       | then-divides w ↦ c.has-then-has.ensures
           ∙ both-listed (divides d (lcm a b)) (is_listed listed c.in-Chain.i c.in-Chain.k) (is_listed listed c.in-Chain.k c.in-Chain.j) (sym c.chain_by-divides.ensures ∙ w.if-divides.true) (sym w.has.ensures ∙ sym w.value-is ∙ c.if-has.true) ∙ whole
-      | else-divides w ↦ absurd (true≢false (sym c.if-has.true ∙ w.value-is))
+      | else-divides w ↦ absurd (true≢false (sym c.if-has.true ∙ w.value-is ∙ w.if-divides.false))
     ]
 
 pub returns-else-has : goal.returns-else-has
