@@ -2,8 +2,7 @@
 
 use crate::worked::{LAWFUL, SIGNS, TRANSLATIONS, changed};
 use rinv_cert::{from_json, to_json};
-use std::alloc::{AllocError, Global};
-use std::test::Fail;
+use std::alloc::Global;
 
 // Other entries of a full certificate: each way in which a pair and a coefficient of a relation are told.
 const OTHERS: &[(&str, &str)] = &[
@@ -18,35 +17,42 @@ const OTHERS: &[(&str, &str)] = &[
 ];
 
 // Whether the text is written as it was read.
-fn is_written(alloc: Global, text: &[u8]) -> Result<bool, AllocError> {
-    match from_json(alloc, text) {
-        Ok(certificate) => {
-            let written = to_json(alloc, &certificate)?;
-            let written: &[u8] = &written;
-            Ok(written == text)
+fn is_written(alloc: Global, text: &[u8]) -> bool {
+    let Ok(certificate) = from_json(alloc, text) else {
+        return false;
+    };
+    match to_json(alloc, &certificate) {
+        Ok(written) => written.as_slice() == text,
+        Err(_) => false,
+    }
+}
+
+#[test]
+fn writes_what_was_read(rt: HostRuntime) {
+    assert!(rt; is_written(rt.alloc(), SIGNS.as_bytes()), "at signs");
+    assert!(rt; is_written(rt.alloc(), LAWFUL.as_bytes()), "at sound");
+    assert!(rt; is_written(rt.alloc(), TRANSLATIONS.as_bytes()), "at full");
+}
+
+// Whether the translations, changed so, are.
+fn is_written_changed(alloc: Global, old: &str, new: &str) -> bool {
+    match changed(alloc, TRANSLATIONS, old, new) {
+        Ok(text) => is_written(alloc, text.as_bytes()),
+        Err(_) => false,
+    }
+}
+
+// Whether all of them are.
+fn are_written_changed(alloc: Global, table: &[(&str, &str)]) -> bool {
+    for (old, new) in table {
+        if !is_written_changed(alloc, old, new) {
+            return false;
         }
-        Err(_) => Ok(false),
     }
+    true
 }
 
 #[test]
-fn writes_what_was_read(rt: HostRuntime) -> Result<(), Fail> {
-    assert!(rt; is_written(rt.alloc(), SIGNS.as_bytes())?, "at signs");
-    assert!(rt; is_written(rt.alloc(), LAWFUL.as_bytes())?, "at sound");
-    assert!(rt; is_written(rt.alloc(), TRANSLATIONS.as_bytes())?, "at full");
-    Ok(())
-}
-
-// The same of changed translations.
-fn is_written_changed(alloc: Global, old: &str, new: &str) -> Result<bool, AllocError> {
-    let text = changed(alloc, TRANSLATIONS, old, new)?;
-    is_written(alloc, text.as_bytes())
-}
-
-#[test]
-fn writes_other_entries(rt: HostRuntime) -> Result<(), Fail> {
-    for (old, new) in OTHERS {
-        assert!(rt; is_written_changed(rt.alloc(), old, new)?, "at {new}");
-    }
-    Ok(())
+fn writes_other_entries(rt: HostRuntime) {
+    assert!(rt; are_written_changed(rt.alloc(), OTHERS));
 }

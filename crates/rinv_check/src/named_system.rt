@@ -1,35 +1,16 @@
 //! The system of a stored certificate, as its laws are computed with.
 
-ghost use Rattle.std.specs.Prelude.{◌≡◌, ◌<◌, ◌^◌, [], length, true, None, IfOk};
-ghost use Rattle.rinv_defs.specs.Names.{are_names};
+ghost use Rattle.std.specs.Prelude.{◌≡◌, None, IfOk};
 ghost use Rattle.rinv_defs.specs.Format.{format_failure};
 ghost use Rattle.rinv_cert.specs.Seen.{plain};
 ghost use Rattle.rinv_parts.specs.Points.{ArePolynomials};
 
-use rinv_cert::{CertificateOf, Name};
-use rinv_form::sizes_in;
+use rinv_cert::CertificateOf;
+use rinv_form::{names_of, sizes_in};
 use rinv_poly::{KPoly, PolyRing};
 use rinv_ring::{Gf, NoMemory, Ring};
-use rinv_text::{Names, System, TextStop};
+use rinv_text::System;
 use std::alloc::Global;
-
-// The names once more, as a list of names.
-fn names_of(alloc: Global, names: &[Name]) -> Result<Names, NoMemory>
-    requires form { are_names [] names.now ≡ true }
-    requires few { length names.now < 2 ^ 32 }
-    ensures { IfOk result (λ n. n ≡ names.now) }
-{
-    let mut words = Vec::new(alloc);
-    for name in names {
-        let word = String::from_str(alloc, name.as_str())?;
-        words.push(word)?;
-    }
-    match Names::from_words(alloc, &words) {
-        Ok(names) => Ok(names),
-        Err(TextStop::NoMemory) => Err(NoMemory),
-        Err(TextStop::Fault(_)) => unreachable!(),
-    }
-}
 
 // The polynomials once more.
 fn copied(alloc: Global, field: Gf, vars: u32, fs: &[KPoly]) -> Result<Vec<KPoly>, NoMemory>

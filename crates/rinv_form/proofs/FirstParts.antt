@@ -9,7 +9,6 @@ use Rattle.std.proofs.lemmas.Bool.{leb-true}
 use Rattle.rinv_algebra.specs.Residue.{is_listed}
 use Rattle.rinv_defs.specs.System.{System, Poly, group_count, space_count}
 use Rattle.rinv_defs.specs.Names.{is_between, are_names}
-use Rattle.rinv_defs.specs.SystemForm.{system_parts}
 use Rattle.rinv_defs.specs.Format.{first_false}
 use Rattle.rinv_form.specs.Forms.{kept, is_stored, are_stored}
 use Rattle.rinv_form.specs.Stops.{StopsAt, frame_failure, lists_failure}

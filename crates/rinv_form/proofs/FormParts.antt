@@ -2,7 +2,7 @@
 --   form-field, form-group, form-space, form-ideal, ..     those of every kind
 --   form-system                                            all those of a system
 --   form-basis, form-inputs, form-pairs, form-relations    those of kind full
-use Rattle.std.proofs.Common.{◌≡◌, ℕ, ◌+◌, ◌*◌, ◌≤◌, List, [], ◌∷◌, ◌++◌, length, Bool, true, ◌&&◌, ◌==◌, nat_lt, nat_le, IsTrue, None, subst, refl}
+use Rattle.std.proofs.Common.{◌≡◌, ◌+◌, ◌*◌, ◌≤◌, [], ◌++◌, length, true, ◌&&◌, ◌==◌, nat_lt, nat_le, IsTrue, None, subst, refl}
 use Rattle.std.specs.List.{list_all, AllByRecursion}
 use Rattle.std.proofs.lemmas.Bool.{leb-true}
 use Rattle.rinv_algebra.specs.Residue.{is_listed}

@@ -7,3 +7,6 @@ pub mod SeenForms
 pub mod TrimmedForms
 pub mod FormParts
 pub mod DistinctLists
+pub mod LawTests
+pub mod RelationParts
+pub mod FormatParts

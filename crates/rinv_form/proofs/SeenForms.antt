@@ -1,12 +1,12 @@
 -- The forms of entries by sizes are the definition's, of what the entries stand for.
 --   basis-forms, pair-forms, relation-forms, law-forms
-use Rattle.std.proofs.Common.{◌≡◌, ℕ, Bool, List, [], ◌∷◌, map, length, ◌&&◌, ◌==◌, refl, ap, ap₂, ◌∙◌}
+use Rattle.std.proofs.Common.{◌≡◌, ℕ, Bool, List, [], ◌∷◌, map, length, ◌&&◌, ◌==◌, refl, ap, ap₂}
 use Rattle.std.specs.Prelude.{zip}
 use Rattle.std.specs.List.{list_all}
 use Rattle.rinv_defs.specs.System.{Poly}
 use Rattle.rinv_defs.specs.Laws.{Law, L1, L2, L3, L4, L5, L6, A1, A2}
 use Rattle.rinv_defs.specs.Certificate.{Certificate}
-use Rattle.rinv_defs.specs.Format.{laws_with_cofactors, are_law_cofactors, is_basis_item, is_pair_item, is_tied, is_tail_item, are_distinct, is_relation_item}
+use Rattle.rinv_defs.specs.Format.{laws_with_cofactors, are_law_cofactors, is_basis_item, is_pair_item, is_tied, is_tail_item, is_relation_item}
 use Rattle.rinv_cert.specs.declared.certificate.PairItem.{PairItem}
 use Rattle.rinv_cert.specs.declared.certificate.PairItem.TheVariants.{Coprime, Chain, Quotients}
 use Rattle.rinv_cert.specs.declared.certificate.Tied.{Tied}

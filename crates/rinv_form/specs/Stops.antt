@@ -1,5 +1,5 @@
 -- What an answer of the test of the format says.
-use Rattle.std.specs.Prelude.{◌≡◌, ℕ, take, drop, Option, Some, None, ⊤}
+use Rattle.std.specs.Prelude.{◌≡◌, ℕ, take, drop, Option, Some, ⊤}
 use Rattle.rinv_defs.specs.System.{System}
 use Rattle.rinv_defs.specs.SystemForm.{system_parts}
 use Rattle.rinv_defs.specs.Format.{first_false}

@@ -2,7 +2,7 @@
 //!
 //! - `stored`: the certificate with each polynomial stored in its ring, or the first part of the wrong form
 //! - `Sizes`, `sizes_in`: the field and the numbers of variables and of elements by which its lists are tested and computed with
-//! - `are_names`: which names the variables may have
+//! - `are_names`, `names_of`: which names the variables may have, and lists of them
 #![tactic(auto)]
 
 mod basis_form;
@@ -21,5 +21,5 @@ mod tail_form;
 
 pub use format::stored;
 pub use frame::FormatStop;
-pub use names::are_names;
+pub use names::{are_names, names_of};
 pub use sizes::{Sizes, sizes_in};

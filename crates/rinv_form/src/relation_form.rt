@@ -64,7 +64,8 @@ impl Form for RelationForm {
         let Some(tail) = items(&TailForm { sizes: *z }, alloc, &plain.tail)? else {
             return Ok(None);
         };
-        if !are_distinct(alloc, z.space, tail.as_slice())? {
+        let apart = are_distinct(alloc, z.space, tail.as_slice())?;
+        if !apart {
             return Ok(None);
         }
         let Some(cofactors) = polynomials(alloc, z.field, z.whole, z.ideal, &plain.cofactors)?

@@ -2,10 +2,9 @@
 
 use crate::worked::{LAWFUL, SIGNS, TRANSLATIONS, changed};
 use rinv_cert::{CertificateOf, Name, from_json};
-use rinv_form::{FormatStop, are_names, stored};
+use rinv_form::{FormatStop, are_names, names_of, stored};
 use rinv_poly::KPoly;
 use std::alloc::{AllocError, Global};
-use std::test::Fail;
 
 // The values of keys that the changed forms replace.
 const IDEAL: &str = "[[[1,[2]],[6,[0]]]]";
@@ -77,26 +76,52 @@ fn part_of(alloc: Global, bytes: &[u8]) -> u32 {
     }
 }
 
-// The same, of a certificate with a piece of its text changed.
-fn part(alloc: Global, text: &str, old: &str, new: &str) -> Result<u32, AllocError> {
-    let other = changed(alloc, text, old, new)?;
-    Ok(part_of(alloc, other.as_bytes()))
+// The same, of a certificate with a piece of its text changed; 96 where memory is short.
+fn part(alloc: Global, text: &str, old: &str, new: &str) -> u32 {
+    match changed(alloc, text, old, new) {
+        Ok(other) => part_of(alloc, other.as_bytes()),
+        Err(_) => 96,
+    }
 }
 
-// The same, of the signs with another value of one key.
-fn key_part(alloc: Global, key: &str, old: &str, new: &str) -> Result<u32, AllocError> {
+// The signs with another value of one key.
+fn with_value(alloc: Global, key: &str, old: &str, new: &str) -> Result<String, AllocError> {
     let entry = format!(in alloc; "\"{key}\":{old}")?;
     let other = format!(in alloc; "\"{key}\":{new}")?;
-    part(alloc, SIGNS, entry.as_str(), other.as_str())
+    changed(alloc, SIGNS, entry.as_str(), other.as_str())
+}
+
+// The number of their part that is refused.
+fn key_part(alloc: Global, key: &str, old: &str, new: &str) -> u32 {
+    match with_value(alloc, key, old, new) {
+        Ok(text) => part_of(alloc, text.as_bytes()),
+        Err(_) => 96,
+    }
+}
+
+// Whether each key refuses its part.
+fn refuses_keys(alloc: Global, table: &[(&str, &str, &str, u32)]) -> bool {
+    for (key, old, new, number) in table {
+        if key_part(alloc, key, old, new) != *number {
+            return false;
+        }
+    }
+    true
+}
+
+// Whether each change of the text refuses its part.
+fn refuses_changes(alloc: Global, text: &str, table: &[(&str, &str, u32)]) -> bool {
+    for (old, new, number) in table {
+        if part(alloc, text, old, new) != *number {
+            return false;
+        }
+    }
+    true
 }
 
 #[test]
-fn refuses_the_first_part_of_the_wrong_form(rt: HostRuntime) -> Result<(), Fail> {
-    for (key, old, new, number) in FORMS {
-        let found = key_part(rt.alloc(), key, old, new)?;
-        assert_eq!(rt; found, *number, "at {key} {new}");
-    }
-    Ok(())
+fn refuses_the_first_part_of_the_wrong_form(rt: HostRuntime) {
+    assert!(rt; refuses_keys(rt.alloc(), FORMS));
 }
 
 // Pieces of the certificate of kind `full`, what stands for each, and the number of the part that is refused; 0 where all are stored.
@@ -141,30 +166,67 @@ const FULL: &[(&str, &str, u32)] = &[
     ),
 ];
 
-#[test]
-fn refuses_parts_of_the_other_kinds(rt: HostRuntime) -> Result<(), Fail> {
-    for (old, new, number) in FULL {
-        let found = part(rt.alloc(), TRANSLATIONS, old, new)?;
-        assert_eq!(rt; found, *number, "at {new}");
-    }
-    let found = part(rt.alloc(), LAWFUL, "\"A2\":[[],[]]", "\"A2\":[]")?;
-    assert_eq!(rt; found, 13);
-    let found = part(rt.alloc(), LAWFUL, "\"kind\"", "\"kind\"")?;
-    assert_eq!(rt; found, 0);
-    Ok(())
-}
-
-// Whether the word is a name, and whether it is one twice.
-fn as_names(alloc: Global, word: &str) -> Result<(bool, bool), AllocError> {
-    let names = vec![in alloc; Name::new(String::from_str(alloc, word)?)]?;
-    Ok((are_names(&[], &names), are_names(&names, &names)))
-}
+// The same of kind `sound`.
+const SOUND: &[(&str, &str, u32)] = &[
+    ("\"A2\":[[],[]]", "\"A2\":[]", 13),
+    ("\"kind\"", "\"kind\"", 0),
+];
 
 #[test]
-fn tells_names(rt: HostRuntime) -> Result<(), Fail> {
-    for (word, is_name) in WORDS {
-        let (once, twice) = as_names(rt.alloc(), word)?;
-        assert!(rt; once == *is_name && !twice, "at {word}");
+fn refuses_parts_of_the_other_kinds(rt: HostRuntime) {
+    assert!(rt; refuses_changes(rt.alloc(), TRANSLATIONS, FULL), "at full");
+    assert!(rt; refuses_changes(rt.alloc(), LAWFUL, SOUND), "at sound");
+}
+
+// The word, as a list of one name.
+fn alone(alloc: Global, word: &str) -> Result<Vec<Name>, AllocError> {
+    let mut names = Vec::new(alloc);
+    names.push(Name::new(String::from_str(alloc, word)?))?;
+    Ok(names)
+}
+
+// Whether the word is taken as a name so, and never twice.
+fn is_taken(alloc: Global, word: &str, is_name: bool) -> bool {
+    match alone(alloc, word) {
+        Ok(names) => are_names(&[], &names) == is_name && !are_names(&names, &names),
+        Err(_) => false,
     }
-    Ok(())
+}
+
+// Whether each word is.
+fn are_taken(alloc: Global, table: &[(&str, bool)]) -> bool {
+    for (word, is_name) in table {
+        if !is_taken(alloc, word, *is_name) {
+            return false;
+        }
+    }
+    true
+}
+
+#[test]
+fn tells_names(rt: HostRuntime) {
+    assert!(rt; are_taken(rt.alloc(), WORDS));
+}
+
+// Whether the word is the first of the names that are made of it.
+fn is_made(alloc: Global, word: &str) -> bool {
+    match alone(alloc, word) {
+        Ok(names) => first_is(alloc, &names, word),
+        Err(_) => false,
+    }
+}
+
+fn first_is(alloc: Global, names: &[Name], word: &str) -> bool {
+    if !are_names(&[], names) {
+        return false;
+    }
+    match names_of(alloc, names) {
+        Ok(made) => made.place(word) == Some(0),
+        Err(_) => false,
+    }
+}
+
+#[test]
+fn makes_names(rt: HostRuntime) {
+    assert!(rt; is_made(rt.alloc(), "Z_9"));
 }

@@ -1,7 +1,6 @@
 //! The answer to the bytes of a certificate: a text and how it ends.
 
-ghost use Rattle.std.specs.Prelude.{◌≡◌, ◌<◌, ◌^◌, [], length, true, IfOk, None, codes};
-ghost use Rattle.rinv_defs.specs.Names.{are_names};
+ghost use Rattle.std.specs.Prelude.{◌≡◌, IfOk, None, codes};
 ghost use Rattle.rinv_defs.specs.Format.{format_failure};
 ghost use Rattle.rinv_defs.specs.Text.{yes_text, kind_text, no_text, refused_text};
 ghost use Rattle.rinv_cert.specs.Faults.{part_word};
@@ -10,10 +9,9 @@ ghost use Rattle.rinv_answers.specs.Commands.Check.{IsCheckAnswer};
 
 use crate::ending::Ending;
 use crate::fraction::write_lines;
-use rinv_cert::{CertFault, CertStop, Certificate, Kind, Name, from_json};
+use rinv_cert::{CertFault, CertStop, Certificate, Kind, from_json};
 use rinv_check::{Verdict, check};
-use rinv_form::{FormatStop, sizes_in, stored};
-use rinv_text::{Names, TextStop};
+use rinv_form::{FormatStop, names_of, sizes_in, stored};
 use std::alloc::{AllocError as NoMemory, Global};
 
 /// What is printed for the bytes of a certificate, and how that ends.
@@ -85,22 +83,4 @@ fn yes_lines(alloc: Global, certificate: &Certificate) -> Result<Vec<u8>, NoMemo
     write_lines(alloc, field, &names, parts.fractions.as_slice(), &mut out)?;
     out.extend_from_slice(kind_line(certificate.kind).as_bytes())?;
     Ok(out)
-}
-
-// The names of a system's variables, as a list of names.
-fn names_of(alloc: Global, names: &[Name]) -> Result<Names, NoMemory>
-    requires form { are_names [] names.now ≡ true }
-    requires few { length names.now < 2 ^ 32 }
-    ensures { IfOk result (λ n. n ≡ names.now) }
-{
-    let mut words = Vec::new(alloc);
-    for name in names {
-        let word = String::from_str(alloc, name.as_str())?;
-        words.push(word)?;
-    }
-    match Names::from_words(alloc, &words) {
-        Ok(names) => Ok(names),
-        Err(TextStop::NoMemory) => Err(NoMemory),
-        Err(TextStop::Fault(_)) => unreachable!(),
-    }
 }

@@ -1,5 +1,5 @@
 use Rattle.std.proofs.Common.{◌∙◌, sym}
-use Rattle.rinv_form.proofs.KeptParts.{kept-triple, first-lost, last-lost, first-fails, last-fails, kept-false}
+use Rattle.rinv_form.proofs.KeptParts.{kept-triple, last-lost, first-fails, last-fails, kept-false}
 use Rattle.rinv_form.proofs.Kept.{kept-none}
 use Rattle.rinv_form.proofs.tail_form.TailFormForm.store.Goals as goal
 

@@ -3,7 +3,7 @@ use Rattle.std.proofs.lemmas.List.{take_more, map-append, length-map}
 use Rattle.rinv_defs.specs.Names.{are_names}
 use Rattle.rinv_text.specs.Names.{StopsAtWord}
 use Rattle.rinv_text.proofs.WordsInTurn.{none_bad}
-use Rattle.rinv_answers.proofs.commands.check.names_of.Goals as goal
+use Rattle.rinv_form.proofs.names.names_of.Goals as goal
 
 -- the words that were copied are the names so far
 more : {X : Type 0} (f : X → List ℕ) (names : List (List ℕ)) (k : ℕ) (words words' : List X) (x : X) (w : List ℕ) → k < length names → w ≡ get_or names k w → f x ≡ w
