@@ -4,7 +4,7 @@
 --   shown-is            whether a relation is shown, by the tests in their order: unfit-fails, tail-fails, graph-decides
 --   relation-parts, term-form, tied-among, form-in, term-in    what forms say of parts
 use Rattle.std.proofs.Common.{◌≡◌, ℕ, ◌<◌, ◌≤◌, arith, Bool, true, false, not, ◌&&◌, List, [], ◌∷◌, length, map, get_or, ◌==◌, None, refl, sym, ap, ap₂, ◌∙◌, subst, IsTrue}
-use Rattle.std.specs.List.{list_all}
+use Rattle.std.specs.List.{list_all, position_from}
 use Rattle.rinv_algebra.specs.Residue.{residue_ops}
 use Rattle.rinv_algebra.specs.Polynomial.{is_zero}
 use Rattle.rinv_algebra.specs.Fits.{product_fits}
@@ -20,7 +20,7 @@ use Rattle.rinv_defs.specs.Invariant.{Fraction}
 use Rattle.rinv_defs.specs.Certificate.{Certificate, RelationItem, TailItem, full}
 use Rattle.rinv_defs.specs.Format.{format_failure, is_relation_item, are_distinct}
 use Rattle.rinv_defs.specs.Conditions.{vanishes_on_graph}
-use Rattle.rinv_defs.specs.RelationConditions.{z_power, behind_z, is_tail, is_tied_to, relation_of, relation_is_shown}
+use Rattle.rinv_defs.specs.RelationConditions.{z_power, behind_z, is_tail, is_tied_to, relation_of, relation_is_shown, relations_failure}
 use Rattle.rinv_cert.specs.declared.certificate.Tied.{Tied}
 use Rattle.rinv_cert.specs.declared.certificate.Tied.TheVariants.{Constant, Generator}
 use Rattle.rinv_cert.specs.declared.certificate.CertificateOf.{CertificateOf}
@@ -33,15 +33,21 @@ use Rattle.rinv_form.specs.ItemForms.{is_relation_form, is_stored_nonzero, is_ta
 use Rattle.rinv_basis_check.specs.declared.rings.RelationRings.{RelationRings}
 use Rattle.rinv_form.proofs.FormParts.{form-fractions, form-relations}
 use Rattle.rinv_form.proofs.SeenForms.{relation-forms}
+use Rattle.rinv_identities.proofs.Walks.{position_from-map}
 use Rattle.rinv_basis_check.specs.Relations.{relation_fits, tails_are, is_relation_in, is_tied_among}
 use Rattle.rinv_basis_check.proofs.PairEntries.{test_at}
 use Rattle.std.specs.Ordering.{is_lt}
 use Rattle.rinv_algebra.specs.Order.{grevlex}
 
 -- each relation has its form
-pub relation-form : (c : CertificateOf Poly) (z : Sizes) → IsSized (plain c) z → (plain c).kind ≡ full → format_failure (plain c) ≡ None → (k : ℕ) (r : List ℕ × Poly × List (List ℕ × Poly × Tied) × List Poly) → k < length c.relations → r ≡ get_or c.relations k r → is_relation_form z r ≡ true
-relation-form c z is kind form k r few at =
-    test_at (is_relation_form z) c.relations k r few at (sym (relation-forms (plain c) z is c.relations) ∙ form-relations (plain c) kind form)
+pub relation-form : (c : CertificateOf Poly) (z : Sizes) → IsSized (plain c) z → (plain c).kind ≡ full → format_failure (plain c) ≡ None → (rs : List (List ℕ × Poly × List (List ℕ × Poly × Tied) × List Poly)) → rs ≡ c.relations → (k : ℕ) (r : List ℕ × Poly × List (List ℕ × Poly × Tied) × List Poly) → k < length rs → r ≡ get_or rs k r → is_relation_form z r ≡ true
+relation-form c z is kind form rs e k r few at =
+    test_at (is_relation_form z) rs k r few at (subst (λ us. list_all (is_relation_form z) us ≡ true) (sym e) (sym (relation-forms (plain c) z is c.relations) ∙ form-relations (plain c) kind form))
+
+-- the first that is not shown, by the relations as they are stored
+pub relations-walk : (c : CertificateOf Poly) (rs : List (List ℕ × Poly × List (List ℕ × Poly × Tied) × List Poly)) → rs ≡ c.relations → relations_failure (plain c) ≡ position_from (λ r. not (relation_is_shown (plain c) (relation_item_by (λ f. f) r))) 1 rs
+unfolding relations_failure
+relations-walk c rs e = position_from-map (relation_item_by (λ f. f)) (λ r. not (relation_is_shown (plain c) r)) 1 c.relations ∙ ap (position_from (λ r. not (relation_is_shown (plain c) (relation_item_by (λ f. f) r))) 1) (sym e)
 
 -- the fractions as they are seen
 pub fractions-seen : (c : CertificateOf Poly) → c.fractions ≡ (plain c).fractions

@@ -85,7 +85,7 @@ power-length g n a =
 -- one is not zero
 one-nonzero : (p : ℕ) → (residue_ops p).same 1 0 ≡ false
 one-nonzero p = elim (cases_Bool ((residue_ops p).same 1 0)) [
-  | inl zero ↦ absurd ((residue_field_laws p).one_differs zero)
+  | inl here ↦ absurd ((residue_field_laws p).one_differs here)
   | inr off ↦ off
 ]
 

@@ -20,6 +20,5 @@ mod tied;
 pub use basis::Basis;
 pub use elements::basis_of;
 pub use leads::leads_failure;
-pub use listed_pairs::{ListedPairs, are_all_listed};
 pub use pairs::pairs_failure;
 pub use relations::relations_failure;

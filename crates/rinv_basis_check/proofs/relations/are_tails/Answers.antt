@@ -1,5 +1,4 @@
-use Rattle.std.proofs.Common.{◌≡◌, ℕ, ◌^◌, ◌<◌, ◌≤◌, List, length, take, true, false, sym, ap, ap₂, ◌∙◌, subst, arith}
-use Rattle.std.specs.List.{list_all}
+use Rattle.std.proofs.Common.{◌≡◌, ℕ, ◌^◌, ◌<◌, ◌≤◌, List, length, true, false, sym, ap, ap₂, ◌∙◌, subst, arith}
 use Rattle.std.specs.Ordering.{is_lt}
 use Rattle.rinv_algebra.specs.Monomial.{total_degree, max_degree}
 use Rattle.rinv_algebra.specs.Order.{grevlex}
@@ -9,7 +8,7 @@ use Rattle.rinv_cert.specs.Seen.{tied_of, relation_item_by}
 use Rattle.rinv_form.specs.Forms.{is_stored}
 use Rattle.rinv_basis_check.specs.Relations.{tails_are, is_tied_among}
 use Rattle.rinv_basis_check.proofs.RelationForms.{relation-parts, term-form, exponents-count, exponents-low, tied-among}
-use Rattle.rinv_basis_check.proofs.TailTests.{is_shown, above-stops, untied-stops, shown-all}
+use Rattle.rinv_basis_check.proofs.TailTests.{above-stops, untied-stops, shown-all}
 use Rattle.rinv_basis_check.proofs.relations.are_tails.Goals as goal
 
 pub is_below-requires-clause-count : goal.is_below-requires-clause-count
@@ -66,4 +65,4 @@ pub returns : goal.returns
 returns c = λ cert is ef.
     let x = c.args.relation.now in
     subst (λ us. true ≡ tails_are cert (relation_item_by (λ f. f) (x.0, x.1, us, x.3))) (c.as_slice-tail.ensures ∙ ap (λ y. y.2) c.relation.view_is)
-    (shown-all cert x.0 x.1 c.as_slice-tail.result.now x.3 c.tail.k c.tail-test.false (subst (λ y. list_all (is_shown cert y.0 y.1) (take c.tail.k c.as_slice-tail.result.now) ≡ true) (c.relation.view_is) (c.tail.invariant cert is ef)))
+    (shown-all cert x.0 x.1 c.as_slice-tail.result.now x.3 c.tail.k c.tail-test.false (c.tail.invariant cert is ef))
