@@ -10,7 +10,7 @@ from_exponents-requires c =
     let es = c.args.exponents.now in
     let whole : c.deref-2.result.now ≡ (replicate g 0 ++ es) ++ replicate (length es) 0 =
     c.deref-2.ensures.value ∙ c.in_ok-extend_from_slice-2.ensures.items
-    ∙ ap₂ (λ (xs ys : List ℕ). xs ++ ys) (c.in_ok-extend_from_slice.ensures.items ∙ ap (λ (xs : List ℕ). xs ++ es) (c.in_ok-list.ensures.items_if_clones_equal (λ x y h. h))) (c.deref.ensures.value ∙ c.in_ok-after.ensures.items_if_clones_equal (λ x y h. h)) in
+    ∙ ap₂ (λ (xs ys : List ℕ). xs ++ ys) (c.in_ok-extend_from_slice.ensures.items ∙ ap (λ (xs : List ℕ). xs ++ es) (c.in_ok-list.ensures.items_if_clones_equal (λ y h. h))) (c.deref.ensures.value ∙ c.in_ok-after.ensures.items_if_clones_equal (λ y h. h)) in
     let long : length c.deref-2.result.now ≡ c.args.rings.now.graph.vars = made-length g n es c.deref-2.result.now c.requires whole c.args.rings.now.graph.vars c.args.rings.now.vars in
     let few = c.args.rings.now.few in
     let vars = c.args.rings.now.vars in
@@ -23,7 +23,7 @@ from_distinct-requires-clause-terms c =
     let es = c.args.exponents.now in
     let whole : c.deref-2.result.now ≡ (replicate g 0 ++ es) ++ replicate (length es) 0 =
     c.deref-2.ensures.value ∙ c.in_ok-extend_from_slice-2.ensures.items
-    ∙ ap₂ (λ (xs ys : List ℕ). xs ++ ys) (c.in_ok-extend_from_slice.ensures.items ∙ ap (λ (xs : List ℕ). xs ++ es) (c.in_ok-list.ensures.items_if_clones_equal (λ x y h. h))) (c.deref.ensures.value ∙ c.in_ok-after.ensures.items_if_clones_equal (λ x y h. h)) in
+    ∙ ap₂ (λ (xs ys : List ℕ). xs ++ ys) (c.in_ok-extend_from_slice.ensures.items ∙ ap (λ (xs : List ℕ). xs ++ es) (c.in_ok-list.ensures.items_if_clones_equal (λ y h. h))) (c.deref.ensures.value ∙ c.in_ok-after.ensures.items_if_clones_equal (λ y h. h)) in
     let monomial : c.in-Some.monomial ≡ c.deref-2.result.now = rw c.in-Some.is at c.in_ok-monomial.ensures.some in
     let two : 2 ≤ c.args.rings.now.graph.coeffs = subst (λ (p : ℕ). 2 ≤ p) c.coeffs.ensures c.modulus-p.ensures.least in
     made-normal g n es c.in-Some.monomial c.requires (monomial ∙ whole) c.args.rings.now.graph.coeffs c.args.rings.now.graph.vars c.args.rings.now.vars two c.in_ok-terms.terms.items c.in_ok-terms.ensures.items
@@ -38,6 +38,6 @@ returns-clause-value c =
     let es = c.args.exponents.now in
     let whole : c.deref-2.result.now ≡ (replicate g 0 ++ es) ++ replicate (length es) 0 =
     c.deref-2.ensures.value ∙ c.in_ok-extend_from_slice-2.ensures.items
-    ∙ ap₂ (λ (xs ys : List ℕ). xs ++ ys) (c.in_ok-extend_from_slice.ensures.items ∙ ap (λ (xs : List ℕ). xs ++ es) (c.in_ok-list.ensures.items_if_clones_equal (λ x y h. h))) (c.deref.ensures.value ∙ c.in_ok-after.ensures.items_if_clones_equal (λ x y h. h)) in
+    ∙ ap₂ (λ (xs ys : List ℕ). xs ++ ys) (c.in_ok-extend_from_slice.ensures.items ∙ ap (λ (xs : List ℕ). xs ++ es) (c.in_ok-list.ensures.items_if_clones_equal (λ y h. h))) (c.deref.ensures.value ∙ c.in_ok-after.ensures.items_if_clones_equal (λ y h. h)) in
     let monomial : c.in-Some.monomial ≡ c.deref-2.result.now = rw c.in-Some.is at c.in_ok-monomial.ensures.some in
     made-same g n es c.in-Some.monomial c.requires (monomial ∙ whole) c.args.rings.now.graph.coeffs c.in_ok-power.power c.in_ok-terms.terms.items c.in_ok-terms.ensures.items c.in_ok-power.ensures.value
