@@ -1,5 +1,6 @@
 pub mod FirstFailures
 pub mod LawFits
+pub mod LawCofactors
 pub mod Changes
 pub mod FractionSettings
 pub mod PairWalks

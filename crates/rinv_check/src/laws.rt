@@ -10,7 +10,7 @@ ghost use Rattle.rinv_cert.specs.Seen.{plain};
 ghost use Rattle.rinv_parts.specs.LawNames.{law_of};
 ghost use Rattle.rinv_parts.specs.Parts.{ArePartsOf, part_at, part_fits};
 ghost use Rattle.rinv_parts.specs.Points.{ArePolynomials};
-ghost use Rattle.rinv_check.specs.LawLists.{list_place, AreListsOf, parts_shown};
+ghost use Rattle.rinv_check.specs.LawLists.{list_place, AreListsFor, AreListsOf, parts_shown};
 
 use crate::named_system::named_system;
 use rinv_cert::{CertificateOf, Items, Kind};
@@ -106,6 +106,21 @@ fn parts_are_shown(
     Ok(true)
 }
 
+// The lists of cofactors of a law's parts.
+fn lists_of(stored: &CertificateOf<KPoly>, law: LawName) -> &[Items<KPoly>]
+    requires kind { ¬ (stored.now.kind ≡ Kind.Invariance) }
+    requires form { format_failure (plain stored.now) ≡ None }
+    ensures { AreListsFor (plain stored.now) (law_of law) result.now }
+{
+    match list_place(law) {
+        Some(place) => {
+            let list = &stored.laws.as_slice()[place];
+            list.as_slice()
+        }
+        None => &[],
+    }
+}
+
 // Whether a law is shown by its cofactors.
 fn law_is_shown(
     alloc: Global,
@@ -121,13 +136,8 @@ fn law_is_shown(
     let parts = parts_of(alloc, system, law)?;
     let group = PolyRing::new(system.field, system.group.len());
     let generators = copied_ideal(alloc, &group, &system.ideal, &parts.ring, law.copies())?;
-    let shown = match list_place(law) {
-        Some(place) => {
-            let lists = stored.laws.as_slice()[place].as_slice();
-            parts_are_shown(alloc, system, &parts, lists, &generators)?
-        }
-        None => parts_are_shown(alloc, system, &parts, &[], &generators)?,
-    };
+    let lists = lists_of(stored, law);
+    let shown = parts_are_shown(alloc, system, &parts, lists, &generators)?;
     Ok(shown)
 }
 

@@ -1,9 +1,8 @@
 -- Sums of products over the numbers modulo a prime, of which those with a cofactor that is zero are left out.
 --   zero-fits, zero-adds      a cofactor that is zero
---   sum-more                  one product more
+--   product-adds, sum-more    one product more
 --   sums-same, not-fitting    a polynomial is the sum, or is not
 use Rattle.std.proofs.Common.{◌≡◌, ℕ, ◌+◌, ◌<◌, List, [], ◌∷◌, ◌++◌, length, get_or, take, true, false, ◌&&◌, refl, sym, ap, ◌∙◌, arith}
-use Rattle.std.proofs.lemmas.List.{append-nil}
 use Rattle.rinv_algebra.specs.Ring.{IsSame}
 use Rattle.rinv_algebra.specs.Residue.{residue_ops}
 use Rattle.rinv_algebra.specs.Polynomial.{poly_ops, product, is_zero, same}
@@ -15,6 +14,8 @@ use Rattle.rinv_algebra.proofs.Products.{combination-push}
 use Rattle.rinv_algebra.proofs.ResidueLaws.{residue_laws}
 use Rattle.rinv_algebra.proofs.RingFacts as facts
 use Rattle.rinv_defs.specs.System.{Poly}
+use Rattle.rinv_poly.specs.Sums.{sum_of}
+use Rattle.rinv_poly.proofs.Summands.{sum_of-push}
 use Rattle.rinv_sub.proofs.Sums.{fronts, take-at}
 
 module _ (p : ℕ) where
@@ -24,11 +25,19 @@ module _ (p : ℕ) where
   zero-fits u f e = rw e refl
 
   -- and adds nothing
-  pub zero-adds : (s u f : Poly) → u ≡ [] → IsSame (poly_ops (residue_ops p)) s (s ++ product (residue_ops p) u f)
-  unfolding product
+  pub zero-adds : (s u f : Poly) → is_zero (residue_ops p) u ≡ true → IsSame (poly_ops (residue_ops p)) s (s ++ product (residue_ops p) u f)
   zero-adds s u f e =
-      let laws = poly_laws (residue_ops p) (residue_laws p) in
-      facts.of_same (poly_ops (residue_ops p)) laws (sym (ap (λ (v : Poly). s ++ product (residue_ops p) v f) e ∙ append-nil s))
+      let o = poly_ops (residue_ops p) in
+      let l = poly_laws (residue_ops p) (residue_laws p) in
+      facts.back o l (facts.then o l (l.add_same s s (product (residue_ops p) u f) [] (l.same_refl s) (facts.then o l (l.mul_same u [] f f e (l.same_refl f)) (facts.zero_mul o l f))) (l.add_zero s))
+
+  -- any other is added
+  pub product-adds : (products : List Poly) (r u f : Poly) → IsSame (poly_ops (residue_ops p)) r (product (residue_ops p) u f)
+      → IsSame (poly_ops (residue_ops p)) (sum_of (products ++ r ∷ [])) (sum_of products ++ product (residue_ops p) u f)
+  product-adds products r u f is =
+      let o = poly_ops (residue_ops p) in
+      let l = poly_laws (residue_ops p) (residue_laws p) in
+      facts.then o l (facts.of_same o l (sum_of-push products r)) (l.add_same (sum_of products) (sum_of products) r (product (residue_ops p) u f) (l.same_refl (sum_of products)) is)
 
   -- one product more
   pub sum-more : (us fs : List Poly) (k : ℕ) (u f s s' : Poly) → k < length us → length us ≡ length fs → u ≡ get_or us k u → f ≡ get_or fs k f

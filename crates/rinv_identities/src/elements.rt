@@ -23,7 +23,8 @@ pub fn copied_elements(alloc: Global, stored: &CertificateOf<KPoly>) -> Result<V
     let basis = stored.basis.as_slice();
     let mut elements = Vec::new(alloc);
     'elements: for k in 0..basis.len() {
-        let element = ring.copy(alloc, &basis[k].h)?;
+        let item = &basis[k];
+        let element = ring.copy(alloc, &item.h)?;
         elements.push(element)?;
     }
     Ok(elements)

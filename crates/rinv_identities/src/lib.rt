@@ -11,10 +11,12 @@ mod elements;
 mod generators;
 mod graph;
 mod ideals;
+mod on_graph;
 mod sums;
 
 pub use elements::copied_elements;
 pub use generators::action_generators;
-pub use graph::{Graph, graph_of, vanishes_on_graph};
+pub use graph::Graph;
 pub use ideals::{copied_ideal, widened_ideal};
+pub use on_graph::{graph_of, vanishes_on_graph};
 pub use sums::multiplies_out;
