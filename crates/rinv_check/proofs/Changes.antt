@@ -36,11 +36,7 @@ use Rattle.rinv_sub.proofs.Misfits.{residues-misfit, residues-uncombined}
 use Rattle.rinv_identities.proofs.GraphValues.{multiplies_out-same}
 use Rattle.rinv_identities.proofs.Walks.{position_from-agree}
 use Rattle.rinv_check.specs.Setting.{setting, change_fits}
-
--- each polynomial is the same as itself
-each-itself : (p : ℕ) (fs : List Poly) → AllZip (IsSame (poly_ops (residue_ops p))) fs fs
-each-itself p [] = tt
-each-itself p (f ∷ fs) = ((poly_laws (residue_ops p) (residue_laws p)).same_refl f, each-itself p fs)
+use Rattle.rinv_check.proofs.ShownParts.{each-itself}
 
 -- ---- the products of a change
 

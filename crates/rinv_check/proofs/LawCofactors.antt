@@ -1,10 +1,13 @@
 -- The cofactors of the laws have their form.
 --   lists-many, lists-form      for each part of a law a list, as long as the ideal's copies, in the variables of the parts
---   lists-for                   the lists that stand at a law's place
+--   lists-at, no-lists          the lists that stand at a law's place
+--   lists-of_law                the lists of a law, in the ring of its parts
 use Rattle.std.proofs.Common.{◌≡◌, ℕ, zero, suc, ◌+◌, ◌*◌, ◌<◌, ◌≤◌, List, [], ◌∷◌, ◌++◌, length, map, get_or, Bool, true, ◌&&◌, ◌==◌, IsTrue, Some, None, refl, sym, ap, ◌∙◌, subst, arith}
 use Rattle.std.specs.Prelude.{zip, slice_get, unwrap_or}
 use Rattle.std.specs.List.{list_all, AllByRecursion}
 use Rattle.std.proofs.lemmas.Bool.{eqb-true}
+use Rattle.std.proofs.lemmas.List.{get_or_default}
+use Rattle.std.proofs.lemmas.Option.{unwrap_or-slice_get}
 use Rattle.rinv_algebra.proofs.Same.{both}
 use Rattle.rinv_defs.proofs.Tests.{parts_true, first_false-append, first_false-append_right, zip_at}
 use Rattle.rinv_defs.proofs.PartCounts.{length-map, parts_few}
@@ -16,7 +19,16 @@ use Rattle.rinv_defs.specs.Format.{common_parts, law_parts, basis_parts, parts_o
 use Rattle.rinv_defs.specs.Conditions.{nth_cofactors, cofactors_of}
 use Rattle.rinv_text.proofs.SystemParts.{parts-of}
 use Rattle.rinv_form.specs.Forms.{are_stored}
-use Rattle.rinv_parts.specs.LawNames.{variables_of}
+use Rattle.rinv_form.proofs.FormParts.{form-system}
+use Rattle.rinv_cert.specs.declared.certificate.CertificateOf.{CertificateOf}
+use Rattle.rinv_cert.specs.declared.certificate.Kind.{Kind as StoredKind}
+use Rattle.rinv_cert.specs.declared.certificate.Kind.TheVariants.{Invariance, Sound, Full}
+use Rattle.rinv_cert.specs.Seen.{kind_of, plain}
+use Rattle.rinv_cert.proofs.Same.{map-same}
+use Rattle.rinv_parts.specs.declared.parts.LawParts.{LawParts}
+use Rattle.rinv_parts.specs.LawNames.{law_of, variables_of}
+use Rattle.rinv_parts.specs.Parts.{IsLawRing}
+use Rattle.rinv_check.specs.LawLists.{list_place, AreListsFor, AreListsOf}
 
 -- what holds of all holds of each
 each-of : {X : Type 0} (test : X → Bool) (xs : List X) (k : ℕ) (d : X) → k < length xs → list_all test xs ≡ true → test (get_or xs k d) ≡ true
@@ -34,6 +46,12 @@ variables-are s L5 = omega arith
 variables-are s L6 = omega arith
 variables-are s A1 = omega arith
 variables-are s A2 = refl
+
+-- a law that says that polynomials are zero has empty lists
+empty-at : (ps : List Poly) (k : ℕ) → get_or (map (λ (f : Poly). let us : List Poly = [] in us) ps) k [] ≡ []
+empty-at [] k = refl
+empty-at (p ∷ ps) zero = refl
+empty-at (p ∷ ps) (suc k) = empty-at ps k
 
 -- for each part a list
 abbrev HaveForm : System → Law → List (List Poly) → Type 0
@@ -72,11 +90,6 @@ module _ (c : Certificate) (other : ¬ (c.kind ≡ invariance)) (form : format_f
       let ps = parts s law in
       let zero_many : copies law * length s.ideal ≡ 0 = rw e (let z : 0 * length s.ideal ≡ 0 = omega arith in z) in
       (let count = length-map (λ (f : Poly). let us : List Poly = [] in us) ps in omega (arith, count), λ k few. rw (zero_many, empty-at ps k) refl)
-    where
-      empty-at : (ps : List Poly) (k : ℕ) → get_or (map (λ (f : Poly). let us : List Poly = [] in us) ps) k [] ≡ []
-      empty-at [] k = refl
-      empty-at (p ∷ ps) zero = refl
-      empty-at (p ∷ ps) (suc k) = empty-at ps k
 
   pub lists-form : (law : Law) → HaveForm c.system law (cofactors_of c law)
   lists-form L1 = none L1 refl
@@ -87,3 +100,73 @@ module _ (c : Certificate) (other : ¬ (c.kind ≡ invariance)) (form : format_f
   lists-form L6 = nth 4 L6 refl
   lists-form A1 = none A1 refl
   lists-form A2 = nth 5 A2 refl
+
+-- ---- the lists that stand at a law's place
+
+-- such a place
+pub place-few : (law : Law) (place : ℕ) → Some place ≡ list_place law → place < 6
+place-few L1 place e = cc
+place-few L2 place e = let at : place ≡ 0 = cc in omega (arith, at)
+place-few L3 place e = let at : place ≡ 1 = cc in omega (arith, at)
+place-few L4 place e = let at : place ≡ 2 = cc in omega (arith, at)
+place-few L5 place e = let at : place ≡ 3 = cc in omega (arith, at)
+place-few L6 place e = let at : place ≡ 4 = cc in omega (arith, at)
+place-few A1 place e = cc
+place-few A2 place e = let at : place ≡ 5 = cc in omega (arith, at)
+
+-- has the law's cofactors
+at-place : (c : Certificate) (law : Law) (place : ℕ) → Some place ≡ list_place law → cofactors_of c law ≡ nth_cofactors c place
+at-place c L1 place e = cc
+at-place c L2 place e = let at : 0 ≡ place = cc in ap (nth_cofactors c) at
+at-place c L3 place e = let at : 1 ≡ place = cc in ap (nth_cofactors c) at
+at-place c L4 place e = let at : 2 ≡ place = cc in ap (nth_cofactors c) at
+at-place c L5 place e = let at : 3 ≡ place = cc in ap (nth_cofactors c) at
+at-place c L6 place e = let at : 4 ≡ place = cc in ap (nth_cofactors c) at
+at-place c A1 place e = cc
+at-place c A2 place e = let at : 5 ≡ place = cc in ap (nth_cofactors c) at
+
+-- the lists of a stored certificate are seen as they are
+same-lists : (ls : List (List (List Poly))) → map (map (map (λ f. f))) ls ≡ ls
+same-lists ls = map-same (map (map (λ f. f))) (map-same (map (λ f. f)) (map-same (λ f. f) (λ f. refl))) ls
+
+-- one of another kind
+pub other-kind : (k : StoredKind) → ¬ (k ≡ Invariance) → ¬ (kind_of k ≡ invariance)
+other-kind Invariance other e = other refl
+other-kind Sound other e = cc
+other-kind Full other e = cc
+
+module _ (c : CertificateOf Poly) (law : Law) where
+  pub lists-at : (place : ℕ) (lists : List (List Poly)) → Some place ≡ list_place law → place < length c.laws → lists ≡ get_or c.laws place lists → AreListsFor (plain c) law lists
+  lists-at place lists e few at k inside =
+      let here : cofactors_of (plain c) law ≡ lists =
+      at-place (plain c) law place e ∙ unwrap_or-slice_get (plain c).laws place [] ∙ ap (λ (ls : List (List (List Poly))). get_or ls place []) (same-lists c.laws)
+      ∙ get_or_default c.laws place [] lists few ∙ sym at
+      in
+      ap (λ (us : List (List Poly)). get_or us k []) (sym here)
+
+  pub no-lists : None ≡ list_place law → AreListsFor (plain c) law []
+  no-lists e k inside = absent law e
+    where
+      absent : (law : Law) → None ≡ list_place law → ◌≡◌ {A = List Poly} [] (get_or (cofactors_of (plain c) law) k [])
+      absent L1 e = sym (empty-at (parts (plain c).system L1) k)
+      absent L2 e = cc
+      absent L3 e = cc
+      absent L4 e = cc
+      absent L5 e = cc
+      absent L6 e = cc
+      absent A1 e = sym (empty-at (parts (plain c).system A1) k)
+      absent A2 e = cc
+
+  -- how many lists there are
+  pub laws-count : ¬ (c.kind ≡ Invariance) → format_failure (plain c) ≡ None → length c.laws ≡ 6
+  laws-count other form =
+      ap (λ (ls : List (List (List Poly))). length ls) (sym (same-lists c.laws)) ∙ lists-count (plain c) (other-kind c.kind other) form (form-system (plain c) form refl)
+
+-- ---- the lists of a law, in the ring of its parts
+
+pub lists-of_law : (c : Certificate) → ¬ (c.kind ≡ invariance) → format_failure c ≡ None → IsSystem c.system → (l : LawParts) (law : Law) (lists : List (List Poly)) (size : ℕ)
+    → law_of l.law ≡ law → IsLawRing c.system (law_of l.law) l.ring.coeffs l.ring.vars → AreListsFor c law lists → size ≡ copies law * length c.system.ideal → AreListsOf c.system l lists size
+lists-of_law c other form system l law lists size e ring for_law many k inside =
+    let inside' : k < length (parts c.system law) = rw e at inside in
+    let here : are_stored c.system.p (variables_of c.system law) (copies law * length c.system.ideal) (get_or lists k []) ≡ true = rw (for_law k inside') ((lists-form c other form system law).1 k inside') in
+    rw (ring.field, ring.vars, e, many) here

@@ -1,6 +1,7 @@
 pub mod FirstFailures
 pub mod LawFits
 pub mod LawCofactors
+pub mod ShownParts
 pub mod Changes
 pub mod FractionSettings
 pub mod PairWalks

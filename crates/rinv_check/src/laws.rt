@@ -52,25 +52,25 @@ fn list_place(law: LawName) -> Option<usize>
 fn part_is_shown(
     alloc: Global,
     system: &System,
-    parts: &LawParts,
+    law_parts: &LawParts,
     place: u32,
     cofactors: &[KPoly],
     generators: &[KPoly],
 ) -> Result<bool, NoMemory>
-    requires parts { ArePartsOf system.now.system parts.now }
-    requires inside { place < length (parts system.now.system (law_of parts.now.law)) }
+    requires parts { ArePartsOf system.now.system law_parts.now }
+    requires inside { place < length (parts system.now.system (law_of law_parts.now.law)) }
     requires many { length cofactors.now ≡ length generators.now }
-    requires cofactors { ArePolynomials parts.now.ring.coeffs parts.now.ring.vars cofactors.now }
-    requires generators { ArePolynomials parts.now.ring.coeffs parts.now.ring.vars generators.now }
-    ensures { IfOk result (λ b. b ≡ (part_fits system.now.system (law_of parts.now.law) place && multiplies_out (residue_ops system.now.system.p) (part_at system.now.system (law_of parts.now.law) place) cofactors.now generators.now)) }
+    requires cofactors { ArePolynomials law_parts.now.ring.coeffs law_parts.now.ring.vars cofactors.now }
+    requires generators { ArePolynomials law_parts.now.ring.coeffs law_parts.now.ring.vars generators.now }
+    ensures { IfOk result (λ b. b ≡ (part_fits system.now.system (law_of law_parts.now.law) place && multiplies_out (residue_ops system.now.system.p) (part_at system.now.system (law_of law_parts.now.law) place) cofactors.now generators.now)) }
 {
     // Degree comes only where a substitution that the law states does not fit.
-    let part = match part_at(alloc, system, parts, place) {
+    let part = match part_at(alloc, system, law_parts, place) {
         Ok(part) => part,
         Err(RingFault::Degree { .. }) => return Ok(false),
         Err(RingFault::NoMemory) => return Err(NoMemory),
     };
-    let shown = multiplies_out(alloc, &parts.ring, &part, cofactors, generators)?;
+    let shown = multiplies_out(alloc, &law_parts.ring, &part, cofactors, generators)?;
     Ok(shown)
 }
 
@@ -88,18 +88,18 @@ fn cofactors_at<'a>(lists: &'a [Items<KPoly>], place: usize) -> &'a [KPoly]
 fn parts_are_shown(
     alloc: Global,
     system: &System,
-    parts: &LawParts,
+    law_parts: &LawParts,
     lists: &[Items<KPoly>],
     generators: &[KPoly],
 ) -> Result<bool, NoMemory>
-    requires parts { ArePartsOf system.now.system parts.now }
-    requires generators { ArePolynomials parts.now.ring.coeffs parts.now.ring.vars generators.now }
-    requires lists { AreListsOf system.now.system parts.now lists.now (length generators.now) }
-    ensures { IfOk result (λ b. b ≡ parts_shown system.now.system (law_of parts.now.law) lists.now generators.now) }
+    requires parts { ArePartsOf system.now.system law_parts.now }
+    requires generators { ArePolynomials law_parts.now.ring.coeffs law_parts.now.ring.vars generators.now }
+    requires lists { AreListsOf system.now.system law_parts.now lists.now (length generators.now) }
+    ensures { IfOk result (λ b. b ≡ parts_shown system.now.system (law_of law_parts.now.law) lists.now generators.now) }
 {
-    'parts: for k in 0..part_count(system, parts.law) {
+    'parts: for k in 0..part_count(system, law_parts.law) {
         let cofactors = cofactors_at(lists, k as usize);
-        if !part_is_shown(alloc, system, parts, k, cofactors, generators)? {
+        if !part_is_shown(alloc, system, law_parts, k, cofactors, generators)? {
             return Ok(false);
         }
     }

@@ -9,5 +9,5 @@ use Rattle.rinv_check.proofs.laws.parts_are_shown.Given as goal
 abbrev pub invariant-parts : goal.invariant-parts
 invariant-parts l =
     let s = l.system.system in
-    let law = law_of l.parts.law in
+    let law = law_of l.law_parts.law in
     list_all (λ k. part_fits s law k && multiplies_out (residue_ops s.p) (part_at s law k) (get_or l.lists k []) l.generators) (range_with_len 0 l.k) ≡ true
