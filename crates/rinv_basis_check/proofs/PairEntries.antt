@@ -21,7 +21,7 @@ pair_items c kind form =
     let parts : AllByRecursion (λ p. IsTrue p.1) (basis_parts c) = parts_true (basis_parts c) (first_false-append_right (common_parts c ++ law_parts c) (basis_parts c) whole) in
     parts.1.1.0
 
-test_at : {X : Type 0} (test : X → Bool) (xs : List X) (k : ℕ) (x : X) → k < length xs → x ≡ get_or xs k x → list_all test xs ≡ true → test x ≡ true
+pub test_at : {X : Type 0} (test : X → Bool) (xs : List X) (k : ℕ) (x : X) → k < length xs → x ≡ get_or xs k x → list_all test xs ≡ true → test x ≡ true
 test_at test [] k x within is h = absurd (omega (arith, within))
 test_at test (y ∷ ys) zero x within is h = ap test is ∙ left (test y) (list_all test ys) h
   where

@@ -13,7 +13,7 @@ use Rattle.rinv_cert.specs.declared.certificate.Tied.{Tied}
 use Rattle.rinv_cert.specs.declared.certificate.Tied.TheVariants.{Constant, Generator}
 use Rattle.rinv_form.specs.Forms.{is_stored}
 use Rattle.rinv_form.specs.ItemForms.{are_exponents}
-use Rattle.rinv_basis_check.specs.declared.relation.RelationRings.{RelationRings}
+use Rattle.rinv_basis_check.specs.declared.rings.RelationRings.{RelationRings}
 
 -- a residue modulo p, or the number of one of so many fractions
 abbrev pub is_tied_among : ℕ → ℕ → Tied → Bool

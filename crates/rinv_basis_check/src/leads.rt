@@ -67,7 +67,8 @@ fn is_covered(relations: &[RelationItem<KPoly>], mono: &Mono, group: u32, space:
     ensures { result ≡ list_any (λ r. divides r.0 (take space (drop group mono.now))) relations.now }
 {
     'relations: for k in 0..relations.len() {
-        if divides_z_part(relations[k].a.as_slice(), mono, group) {
+        let relation = &relations[k];
+        if divides_z_part(relation.a.as_slice(), mono, group) {
             return true;
         }
     }

@@ -6,6 +6,7 @@
 #![tactic(auto)]
 
 mod basis;
+mod elements;
 mod entry;
 mod leads;
 mod listed_pairs;
@@ -13,10 +14,11 @@ mod pairs;
 mod quotients;
 mod relation;
 mod relations;
+mod rings;
 mod tied;
 
-pub use basis::{Basis, basis_of};
+pub use basis::Basis;
+pub use elements::basis_of;
 pub use leads::leads_failure;
-pub use listed_pairs::{ListedPairs, are_all_listed};
 pub use pairs::pairs_failure;
 pub use relations::relations_failure;

@@ -6,7 +6,7 @@ use std::marker::Model;
 
 /// Pairs of places, the smaller first, in the order in which they were listed.
 #[derive(Drop)]
-pub struct ListedPairs {
+pub(crate) struct ListedPairs {
     set: IndexSet<(u32, u32)>,
 }
 
@@ -23,7 +23,7 @@ impl ListedPairs {
     ghost use Rattle.rinv_basis_check.specs.Listed.{is_listed};
 
     /// No pairs.
-    pub fn empty(alloc: Global) -> ListedPairs
+    pub(crate) fn empty(alloc: Global) -> ListedPairs
         ensures { result ≡ [] }
     {
         ListedPairs {
@@ -32,7 +32,7 @@ impl ListedPairs {
     }
 
     /// Whether the pair of two places is listed.
-    pub fn has(&self, i: u32, j: u32) -> bool
+    pub(crate) fn has(&self, i: u32, j: u32) -> bool
         ensures { result ≡ is_listed self.now i j }
     {
         let pair = (i.min(j), i.max(j));
@@ -40,7 +40,7 @@ impl ListedPairs {
     }
 
     /// Lists a pair that was not listed before.
-    pub fn add(&mut self, i: u32, j: u32) -> Result<(), NoMemory>
+    pub(crate) fn add(&mut self, i: u32, j: u32) -> Result<(), NoMemory>
         requires { is_listed self.old i j ≡ false }
         ensures { OnOk result (self.new ≡ self.old ++ (min i j, max i j) ∷ []) }
     {
@@ -58,7 +58,7 @@ ghost use Rattle.rinv_defs.specs.PairConditions.{all_pairs};
 ghost use Rattle.rinv_basis_check.specs.Listed.{is_listed};
 
 /// Whether each pair of places from 1 to `count` is listed. It ends at the first that is not, so it takes as many steps as pairs are listed.
-pub fn are_all_listed(listed: &ListedPairs, count: u32) -> bool
+pub(crate) fn are_all_listed(listed: &ListedPairs, count: u32) -> bool
     ensures { result ≡ list_all (λ p. is_listed listed.now p.0 p.1) (all_pairs count) }
 {
     'seconds: for j in 0..count {

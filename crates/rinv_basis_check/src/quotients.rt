@@ -16,7 +16,8 @@ ghost use Rattle.rinv_defs.specs.PairConditions.{element, action_order, reduces_
 ghost use Rattle.rinv_form.specs.Forms.{is_stored, are_stored};
 ghost use Rattle.rinv_basis_check.specs.Bases.{IsBasisOf};
 
-use crate::basis::{Basis, lead_of};
+use crate::basis::Basis;
+use crate::elements::lead_of;
 use rinv_identities::multiplies_out;
 use rinv_mono::{Mono, MonoFault, MonoOrder};
 use rinv_poly::KPoly;
@@ -41,6 +42,8 @@ fn multiple(
 {
     let ring = &basis.ring;
     let mono = common.quotient(alloc, &basis.leads[f])?;
+    // Its degree is within the limit.
+    let _degree = mono.degree();
     let Some(place) = ring.lead(&basis.elements[g], &basis.order) else {
         unreachable!()
     };

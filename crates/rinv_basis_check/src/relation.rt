@@ -1,6 +1,6 @@
 //! One relation: its polynomial in the group's variables, Z and the space's.
 
-ghost use Rattle.std.specs.Prelude.{◌≡◌, ◌+◌, ◌++◌, [], ◌∷◌, replicate, true, IsTrue, IfOk, IfSome, is_some};
+ghost use Rattle.std.specs.Prelude.{◌≡◌, ◌++◌, [], ◌∷◌, replicate, true, IsTrue, IfOk, IfSome, is_some};
 ghost use Rattle.rinv_algebra.specs.Ring.{IsSame};
 ghost use Rattle.rinv_algebra.specs.Residue.{residue_ops};
 ghost use Rattle.rinv_algebra.specs.Polynomial.{poly_ops, term_product};
@@ -12,36 +12,12 @@ ghost use Rattle.rinv_form.specs.Forms.{is_stored};
 ghost use Rattle.rinv_form.specs.ItemForms.{are_exponents};
 ghost use Rattle.rinv_basis_check.specs.Relations.{AreRingsOf, relation_fits, is_relation_in};
 
+use crate::rings::RelationRings;
 use rinv_cert::RelationItem;
-use rinv_form::Sizes;
 use rinv_mono::Mono;
-use rinv_poly::{KPoly, PolyRing};
-use rinv_ring::{Gf, NoMemory, Ring, RingFault};
+use rinv_poly::KPoly;
+use rinv_ring::{NoMemory, Ring, RingFault};
 use std::alloc::Global;
-
-/// The ring of the space's variables, and that of the group's, Z and the space's.
-#[derive(Drop)]
-pub(crate) struct RelationRings {
-    pub(crate) group: u32,
-    pub(crate) space: PolyRing<Gf>,
-    pub(crate) graph: PolyRing<Gf>,
-    ghost field: { space.coeffs ≡ graph.coeffs },
-    ghost vars: { graph.vars ≡ group + space.vars + space.vars },
-}
-
-/// The rings of a certificate with these sizes.
-pub(crate) fn relation_rings(sizes: &Sizes) -> RelationRings
-    requires { sizes.now.graph ≡ sizes.now.group + sizes.now.space + sizes.now.space }
-    ensures group { result.group ≡ sizes.now.group }
-    ensures field { result.graph.coeffs ≡ sizes.now.field }
-    ensures space { result.space.vars ≡ sizes.now.space }
-{
-    RelationRings {
-        group: sizes.group,
-        space: PolyRing::new(sizes.field, sizes.space),
-        graph: PolyRing::new(sizes.field, sizes.graph),
-    }
-}
 
 // Z to these exponents, in the ring of the graph.
 fn z_power(alloc: Global, rings: &RelationRings, exponents: &[u32]) -> Result<KPoly, NoMemory>
@@ -102,7 +78,8 @@ pub(crate) fn relation_polynomial(
     let tail = relation.tail.as_slice();
     let mut summands = Vec::new(alloc);
     'tail: for k in 0..tail.len() {
-        let Some(summand) = multiple(alloc, rings, tail[k].alpha.as_slice(), &tail[k].c)? else {
+        let term = &tail[k];
+        let Some(summand) = multiple(alloc, rings, term.alpha.as_slice(), &term.c)? else {
             return Ok(None);
         };
         summands.push(summand)?;

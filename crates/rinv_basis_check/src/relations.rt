@@ -1,6 +1,6 @@
 //! The sixth condition: the relations hold on the graph, and their coefficients are constants and fractions.
 
-ghost use Rattle.std.specs.Prelude.{◌≡◌, ◌<◌, ◌≤◌, ◌^◌, length, None, true, IsTrue, IfOk};
+ghost use Rattle.std.specs.Prelude.{◌≡◌, ◌<◌, ◌≤◌, ◌+◌, ◌^◌, length, None, true, IsTrue, IfOk};
 ghost use Rattle.std.specs.List.{list_all};
 ghost use Rattle.std.specs.Ordering.{is_lt};
 ghost use Rattle.rinv_algebra.specs.Monomial.{total_degree, max_degree};
@@ -15,7 +15,8 @@ ghost use Rattle.rinv_form.specs.ItemForms.{is_relation_form};
 ghost use Rattle.rinv_identities.specs.Graphs.{IsGraph};
 ghost use Rattle.rinv_basis_check.specs.Relations.{tails_are};
 
-use crate::relation::{RelationRings, relation_polynomial, relation_rings};
+use crate::relation::relation_polynomial;
+use crate::rings::{RelationRings, relation_rings};
 use crate::tied::is_tied_to;
 use rinv_cert::{CertificateOf, Items, Kind, RelationItem};
 use rinv_form::{Sizes, sizes_in};
@@ -86,6 +87,7 @@ fn relation_is_shown(
     fractions: &[(KPoly, KPoly)],
     relation: &RelationItem<KPoly>,
 ) -> Result<bool, NoMemory>
+    requires sizes { sizes.now.graph ≡ sizes.now.group + sizes.now.space + sizes.now.space }
     requires form { is_relation_form sizes.now relation.now ≡ true }
     requires many { length fractions.now ≡ sizes.now.fractions }
     requires fractions { IsTrue (list_all (is_stored_fraction sizes.now.field sizes.now.space) fractions.now) }

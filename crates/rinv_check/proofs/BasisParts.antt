@@ -2,15 +2,16 @@
 --   element-polynomial, element-cofactors     an element of the basis
 --   elements-normal, elements-number          all elements, without cofactors
 --   basis-walk                                the elements fail at the same place as what they stand for
---   input-number, input-normal, inputs-many   an array
+--   input-number, input-normal, inputs-many, inputs-walk   the arrays
 use Rattle.std.proofs.Common.{◌≡◌, ℕ, zero, suc, ◌+◌, ◌*◌, ◌<◌, ◌≤◌, List, [], ◌∷◌, ◌++◌, length, map, get_or, Bool, true, false, not, ◌&&◌, ◌==◌, Option, None, refl, sym, ap, ◌∙◌, subst, arith, length-append}
-use Rattle.std.specs.Prelude.{IsTrue, All}
+use Rattle.std.specs.Prelude.{IsTrue, All, zip}
 use Rattle.std.specs.List.{list_all, position_from}
 use Rattle.std.proofs.lemmas.Bool.{eqb-true}
-use Rattle.std.proofs.lemmas.List.Elements.{All-nil, All-cons}
+use Rattle.std.proofs.lemmas.List.Elements.{All-nil, All-cons, All-get_or}
 use Rattle.std.proofs.lemmas.List.Folds.{list_all-map}
 use Rattle.rinv_algebra.specs.Residue.{residue_ops}
 use Rattle.rinv_algebra.specs.Polynomial.{is_zero}
+use Rattle.rinv_algebra.specs.Fits.{multiplies_out}
 use Rattle.rinv_algebra.specs.Normal.{IsNormal}
 use Rattle.rinv_algebra.proofs.Same.{both}
 use Rattle.rinv_defs.specs.System.{System, Poly, group_count, space_count}
@@ -18,7 +19,7 @@ use Rattle.rinv_defs.specs.SystemForm.{is_good, are_good, is_nonzero}
 use Rattle.rinv_defs.specs.Extended.{graph}
 use Rattle.rinv_defs.specs.Certificate.{Certificate, full}
 use Rattle.rinv_defs.specs.Format.{format_failure, is_basis_item}
-use Rattle.rinv_defs.specs.Conditions.{elements, vanishes_on_graph, basis_failure}
+use Rattle.rinv_defs.specs.Conditions.{elements, vanishes_on_graph, basis_failure, inputs_failure}
 use Rattle.rinv_defs.proofs.PartCounts.{length-map}
 use Rattle.rinv_soundness.proofs.Relabels.{graph_few}
 use Rattle.rinv_cert.specs.declared.certificate.CertificateOf.{CertificateOf}
@@ -27,8 +28,9 @@ use Rattle.rinv_cert.proofs.Same.{map-same}
 use Rattle.rinv_form.specs.Forms.{is_stored, are_stored}
 use Rattle.rinv_form.proofs.FormParts.{form-basis, form-inputs}
 use Rattle.rinv_parts.specs.Points.{ArePolynomials, AreStored}
-use Rattle.rinv_parts.proofs.Stored.{stored-count}
+use Rattle.rinv_parts.proofs.Stored.{stored-count, stored-normal}
 use Rattle.rinv_identities.proofs.Walks.{position_from-map, position_from-agree}
+use Rattle.rinv_check.proofs.PairWalks.{stored-walk}
 
 all-at : {A : Type 0} (test : A → Bool) (xs : List A) (k : ℕ) (x : A) → list_all test xs ≡ true → k < length xs → x ≡ get_or xs k x → test x ≡ true
 all-at test [] k x h within is = absurd (omega (arith, within))
@@ -38,6 +40,11 @@ all-at test (y ∷ ys) (suc k) x h within is = all-at test ys k x (both (test y)
 pub all-normal : (p v : ℕ) (fs : List Poly) → list_all (is_stored p v) fs ≡ true → ArePolynomials p v fs
 all-normal p v [] h = All-nil (λ f. IsTrue (is_stored p v f))
 all-normal p v (f ∷ fs) h = let t = both (is_stored p v f) _ h in All-cons (λ f. IsTrue (is_stored p v f)) f fs t.0 (all-normal p v fs t.1)
+
+-- a generator as it is stored
+pub generator-normal : (p v q w : ℕ) (fs gs : List Poly) (k : ℕ) (g : Poly) → AreStored p v fs gs → q ≡ p → w ≡ v → k < length gs → g ≡ get_or gs k g → IsTrue (is_stored q w g)
+generator-normal p v q w fs gs k g stored eq ew within is =
+    rw (eq, ew) (subst (λ (f : Poly). IsTrue (is_stored p v f)) (sym is) (All-get_or (λ (f : Poly). IsTrue (is_stored p v f)) gs k g within (stored-normal p v fs gs stored)))
 
 same-polynomials : (fs : List Poly) → map (λ f. f) fs ≡ fs
 same-polynomials fs = map-same (λ f. f) (λ f. refl) fs
@@ -111,3 +118,8 @@ module _ (c : CertificateOf Poly) (kind : (plain c).kind ≡ full) (form : forma
 
     pub input-normal : (p v : ℕ) → p ≡ s.p → v ≡ graph_vars → ArePolynomials p v us
     input-normal p v ep ev = rw (ep, ev) (all-normal s.p graph_vars us (both (length us == length (plain c).basis) _ input).1)
+
+  pub inputs-walk : (q v : ℕ) (es gens : List Poly) (uss : List (List Poly)) → q ≡ s.p → es ≡ elements (plain c) → uss ≡ c.inputs → AreStored s.p v (s.ideal ++ graph s) gens
+      → position_from (λ x. not (multiplies_out (residue_ops q) x.0 x.1 es)) 1 (zip gens uss) ≡ inputs_failure (plain c)
+  unfolding inputs_failure
+  inputs-walk q v es gens uss eq ee eu stored = rw (eq, ee, eu ∙ sym same-inputs) (stored-walk s.p v (elements (plain c)) (s.ideal ++ graph s) gens (plain c).inputs 1 stored)

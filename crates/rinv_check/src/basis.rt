@@ -31,7 +31,9 @@ pub(crate) fn basis_failure(
             return Err(NoMemory);
         };
         let element = &basis[k];
-        if !vanishes_on_graph(alloc, graph, &element.h, element.cofactors.as_slice())? {
+        let cofactors = element.cofactors.as_slice();
+        let vanishes = vanishes_on_graph(alloc, graph, &element.h, cofactors)?;
+        if !vanishes {
             return Ok(Some(number));
         }
     }
@@ -42,23 +44,26 @@ pub(crate) fn basis_failure(
 pub(crate) fn inputs_failure(
     alloc: Global,
     stored: &CertificateOf<KPoly>,
-    elements: &[KPoly],
+    basis: &[KPoly],
 ) -> Result<Option<u32>, NoMemory>
     requires kind { stored.now.kind ≡ Kind.Full }
     requires form { format_failure (plain stored.now) ≡ None }
-    requires elements { elements.now ≡ elements (plain stored.now) }
+    requires elements { basis.now ≡ elements (plain stored.now) }
     ensures { IfOk result (λ o. o ≡ inputs_failure (plain stored.now)) }
 {
     let sizes = sizes_in(stored);
     let ring = PolyRing::new(sizes.field, sizes.graph);
     let generators = action_generators(alloc, stored)?;
+    let polynomials = generators.as_slice();
     let inputs = stored.inputs.as_slice();
-    'generators: for k in 0..generators.len() {
+    'generators: for k in 0..polynomials.len() {
         // Numbers of entries are u32: a longer list is answered as want of memory.
         let Ok(number) = u32::try_from(k + 1) else {
             return Err(NoMemory);
         };
-        if !multiplies_out(alloc, &ring, &generators[k], inputs[k].as_slice(), elements)? {
+        let array = inputs[k].as_slice();
+        let holds = multiplies_out(alloc, &ring, &polynomials[k], array, basis)?;
+        if !holds {
             return Ok(Some(number));
         }
     }

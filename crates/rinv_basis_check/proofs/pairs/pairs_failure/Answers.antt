@@ -49,5 +49,7 @@ is_good_entry-requires c =
     let inside = within_map (pair_item_by (λ f. f)) c.as_slice-pairs.result.now c.entries.k within in
     let stands = entry_at (pair_item_by (λ f. f)) c.as_slice-pairs.result.now c.entries.k _ within c.index-pairs-k.is in
     let same = ap (map (pair_item_by (λ f. f))) c.as_slice-pairs.ensures in
-    entry-in (plain c.args.stored.now) c.args.basis.now c.index-pairs-k.result c.requires.basis
-    (entry_form (plain c.args.stored.now) c.entries.k _ (ap kind_of c.requires.kind) c.requires.form (subst (λ es. c.entries.k < length es) same inside) (stands ∙ ap (λ es. get_or es c.entries.k (pair_item_by (λ f. f) c.index-pairs-k.result)) same))
+    record {
+      form = entry-in (plain c.args.stored.now) c.args.basis.now c.index-pairs-k.result c.requires.basis
+          (entry_form (plain c.args.stored.now) c.entries.k _ (ap kind_of c.requires.kind) c.requires.form (subst (λ es. c.entries.k < length es) same inside) (stands ∙ ap (λ es. get_or es c.entries.k (pair_item_by (λ f. f) c.index-pairs-k.result)) same));
+    }

@@ -8,5 +8,5 @@ use Rattle.rinv_check.proofs.basis.inputs_failure.Given as goal
 
 abbrev pub invariant-generators : goal.invariant-generators
 invariant-generators l =
-    let test : Poly × List Poly → Bool = λ x. not (multiplies_out (residue_ops l.ring.coeffs) x.0 x.1 l.elements) in
-    Walks test (zip l.generators.items l.inputs) l.k
+    let test : Poly × List Poly → Bool = λ x. not (multiplies_out (residue_ops l.ring.coeffs) x.0 x.1 l.basis) in
+    Walks test (zip l.polynomials l.inputs) l.k
