@@ -3,8 +3,8 @@
 --   elements-normal, elements-number          all elements, without cofactors
 --   basis-walk                                the elements fail at the same place as what they stand for
 --   input-number, input-normal, inputs-many, inputs-walk   the arrays
-use Rattle.std.proofs.Common.{◌≡◌, ℕ, zero, suc, ◌+◌, ◌*◌, ◌<◌, ◌≤◌, List, [], ◌∷◌, ◌++◌, length, map, get_or, Bool, true, false, not, ◌&&◌, ◌==◌, Option, None, refl, sym, ap, ◌∙◌, subst, arith, length-append}
-use Rattle.std.specs.Prelude.{IsTrue, All, zip}
+use Rattle.std.proofs.Common.{◌≡◌, ℕ, zero, suc, ◌+◌, ◌*◌, ◌<◌, ◌≤◌, List, [], ◌∷◌, ◌++◌, length, map, get_or, Bool, true, not, ◌&&◌, ◌==◌, None, refl, sym, ap, ◌∙◌, subst, arith, length-append}
+use Rattle.std.specs.Prelude.{IsTrue, zip}
 use Rattle.std.specs.List.{list_all, position_from}
 use Rattle.std.proofs.lemmas.Bool.{eqb-true}
 use Rattle.std.proofs.lemmas.List.Elements.{All-nil, All-cons, All-get_or}
@@ -12,12 +12,11 @@ use Rattle.std.proofs.lemmas.List.Folds.{list_all-map}
 use Rattle.rinv_algebra.specs.Residue.{residue_ops}
 use Rattle.rinv_algebra.specs.Polynomial.{is_zero}
 use Rattle.rinv_algebra.specs.Fits.{multiplies_out}
-use Rattle.rinv_algebra.specs.Normal.{IsNormal}
 use Rattle.rinv_algebra.proofs.Same.{both}
 use Rattle.rinv_defs.specs.System.{System, Poly, group_count, space_count}
 use Rattle.rinv_defs.specs.SystemForm.{is_good, are_good, is_nonzero}
 use Rattle.rinv_defs.specs.Extended.{graph}
-use Rattle.rinv_defs.specs.Certificate.{Certificate, full}
+use Rattle.rinv_defs.specs.Certificate.{full}
 use Rattle.rinv_defs.specs.Format.{format_failure, is_basis_item}
 use Rattle.rinv_defs.specs.Conditions.{elements, vanishes_on_graph, basis_failure, inputs_failure}
 use Rattle.rinv_defs.proofs.PartCounts.{length-map}

@@ -2,7 +2,7 @@
 --   group-names, space-names      its names are names
 --   ideal-normal, .., action-normal   its polynomials are stored in their rings
 --   system-named                  the system that is made of its parts
-use Rattle.std.proofs.Common.{◌≡◌, ℕ, ◌+◌, ◌*◌, ◌≤◌, List, [], length, map, Bool, true, ◌&&◌, ◌==◌, None, refl, sym, ap, ◌∙◌, subst}
+use Rattle.std.proofs.Common.{◌≡◌, ℕ, ◌+◌, ◌*◌, List, [], length, map, true, ◌==◌, None, refl, ◌∙◌, subst}
 use Rattle.std.specs.List.{list_all}
 use Rattle.rinv_algebra.proofs.Same.{both}
 use Rattle.rinv_defs.specs.System.{System, Poly, group_count, space_count}
@@ -13,8 +13,7 @@ use Rattle.rinv_text.proofs.NamesInTurn.{are_names-alone}
 use Rattle.rinv_cert.specs.declared.certificate.CertificateOf.{CertificateOf}
 use Rattle.rinv_cert.specs.Seen.{plain}
 use Rattle.rinv_cert.proofs.Same.{map-same}
-use Rattle.rinv_form.specs.Forms.{is_stored}
-use Rattle.rinv_form.proofs.FormParts.{form-group, form-space, form-group_names, form-space_names, form-ideal, form-product, form-inverse, form-action}
+use Rattle.rinv_form.proofs.FormParts.{form-group_names, form-space_names, form-ideal, form-product, form-inverse, form-action}
 use Rattle.rinv_parts.specs.Points.{ArePolynomials}
 use Rattle.rinv_check.proofs.BasisParts.{all-normal}
 

@@ -1,4 +1,4 @@
-use Rattle.std.proofs.Common.{◌≡◌, ◌∙◌, Bool, false, not, List, Some, length, sym, ap, subst, arith, IsTrue}
+use Rattle.std.proofs.Common.{◌≡◌, ◌∙◌, false, not, List, Some, length, sym, ap, subst, arith, IsTrue}
 use Rattle.rinv_defs.specs.System.{Poly}
 use Rattle.rinv_defs.specs.Conditions.{vanishes_on_graph}
 use Rattle.rinv_cert.specs.Seen.{kind_of, plain}

@@ -1,4 +1,4 @@
-use Rattle.std.proofs.Common.{◌≡◌, ◌∙◌, Bool, true, false, not, List, Some, length, sym, ap, arith}
+use Rattle.std.proofs.Common.{◌∙◌, not, List, Some, length, sym, ap, arith}
 use Rattle.rinv_algebra.specs.Residue.{residue_ops}
 use Rattle.rinv_algebra.specs.Fits.{multiplies_out}
 use Rattle.rinv_defs.specs.System.{Poly}

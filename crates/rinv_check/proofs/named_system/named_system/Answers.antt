@@ -1,4 +1,4 @@
-use Rattle.std.proofs.Common.{◌≡◌, ◌*◌, ℕ, ap}
+use Rattle.std.proofs.Common.{◌*◌, ℕ, ap}
 use Rattle.rinv_check.proofs.StoredSystems.{group-names, space-names, ideal-normal, product-normal, inverse-normal, action-normal}
 use Rattle.rinv_check.proofs.named_system.named_system.Goals as goal
 
