@@ -56,7 +56,13 @@ pub names_of-requires-clause-few : goal.names_of-requires-clause-few
 names_of-requires-clause-few c = let h = (space_names-of_format (plain c.args.certificate.now) c.requires).0 in omega (arith, h, ap length c.as_slice.ensures)
 
 pub write_lines-requires : goal.write_lines-requires
-write_lines-requires c = ?
+write_lines-requires c =
+    rw c.as_slice-2.ensures (written (plain c.args.certificate.now) (plain c.in-Ok.parts) c.in-Ok.ensures.keys c.in-Ok.ensures.form _ c.sizes_in-field.ensures.field _ (c.in_ok-names.ensures ∙ c.as_slice.ensures) c.in-Ok.parts.fractions refl)
 
 pub returns : goal.returns
-returns c = ?
+returns c =
+    yes-of (plain c.args.certificate.now) c.sizes_in-field.result.field c.in_ok-names.names c.as_slice-2.result.now c.as_bytes.result.now
+    c.new-out.result.items c.extend_from_slice.new.self.items c.write_lines.new.out.items c.extend_from_slice-2.new.self.items
+    (c.as_bytes.ensures.value ∙ c.kind_line.ensures) (field-is (plain c.args.certificate.now) (plain c.in-Ok.parts) c.in-Ok.ensures.keys _ c.sizes_in-field.ensures.field) (c.in_ok-names.ensures ∙ c.as_slice.ensures)
+    (c.as_slice-2.ensures ∙ fractions-kept (plain c.args.certificate.now) (plain c.in-Ok.parts) c.in-Ok.ensures.keys c.in-Ok.parts.fractions refl)
+    c.new-out.ensures.items c.in_ok-extend_from_slice.ensures.items c.in_ok-write_lines.ensures c.in_ok-extend_from_slice-2.ensures.items
