@@ -3,27 +3,24 @@
 --   fits-moved, fits-left, ..       which of the products does not fit
 --   meets-numerator, ..              over numbers modulo a prime Degree comes only where something does not fit
 --   shown-same, position_from-agree    the condition depends on the coefficients of the ideal alone
-use Rattle.std.proofs.Common.{◌≡◌, ℕ, ◌+◌, Bool, true, false, ◌&&◌, List, [], ◌∷◌, ◌++◌, length, refl, sym, ap, ◌∙◌, ◌<◌, get_or, take, suc, arith}
-use Rattle.std.specs.Prelude.{zip, not, Option, Result, Ok, Err, IfOk, All, IsTrue}
+use Rattle.std.proofs.Common.{◌≡◌, ℕ, Bool, true, false, ◌&&◌, List, [], ◌∷◌, ◌++◌, refl, sym, ap, ◌∙◌}
+use Rattle.std.specs.Prelude.{zip, not, All, IsTrue}
 use Rattle.std.specs.List.{AllZip, position_from, list_all}
 use Rattle.std.proofs.lemmas.List.Elements.{All-nil, All-cons}
 use Rattle.rinv_algebra.proofs.Same.{both}
-use Rattle.std.specs.Prelude.{nat_lt, ◌==◌}
-use Rattle.std.proofs.lemmas.Bool.Decides.{nat_tests}
-use Rattle.rinv_form.specs.Forms.{is_stored, are_stored}
+use Rattle.std.specs.Prelude.{nat_lt}
+use Rattle.rinv_form.specs.Forms.{is_stored, are_stored, is_stored_fraction}
 use Rattle.std.proofs.lemmas.List.{length-replicate}
-use Rattle.rinv_sub.proofs.Sums.{take-at}
-use Rattle.rinv_algebra.specs.Ring.{RingOps, RingLaws, IsSame}
+use Rattle.rinv_algebra.specs.Ring.{IsSame}
 use Rattle.rinv_algebra.specs.Residue.{residue_ops}
 use Rattle.rinv_algebra.specs.Polynomial.{poly_ops, product, same, opposite, past}
 use Rattle.rinv_algebra.specs.Value.{substitute}
-use Rattle.rinv_algebra.specs.Ideal.{combination}
-use Rattle.rinv_algebra.specs.Fits.{product_fits, substitution_fits, combination_fits, multiplies_out}
+use Rattle.rinv_algebra.specs.Fits.{product_fits, substitution_fits, multiplies_out}
 use Rattle.rinv_algebra.proofs.PolynomialLaws.{poly_laws}
 use Rattle.rinv_algebra.proofs.ResidueLaws.{residue_laws}
 use Rattle.rinv_algebra.proofs.RingFacts as facts
 use Rattle.rinv_algebra.proofs.Products.{and_false}
-use Rattle.rinv_algebra.proofs.Degrees.{iff-equal, product_fits-same}
+use Rattle.rinv_algebra.proofs.Degrees.{product_fits-same}
 use Rattle.rinv_ring.specs.Fault.{DegreesMeet}
 use Rattle.rinv_ring.specs.declared.fault.RingFault.{RingFault}
 use Rattle.rinv_ring.specs.declared.fault.RingFault.TheVariants.{Degree, NoMemory}
@@ -31,8 +28,8 @@ use Rattle.rinv_defs.specs.System.{System, Poly, group_count}
 use Rattle.rinv_defs.specs.Invariant.{Fraction, change}
 use Rattle.rinv_defs.specs.Conditions.{invariance_is_shown}
 use Rattle.rinv_poly.proofs.Meets.{meet-weaker}
-use Rattle.rinv_sub.specs.Refusal.{SubstitutionMeets, CombinationMeets, never}
-use Rattle.rinv_sub.proofs.Misfits.{residues-misfit, residues-uncombined}
+use Rattle.rinv_sub.specs.Refusal.{SubstitutionMeets, never}
+use Rattle.rinv_sub.proofs.Misfits.{residues-misfit}
 use Rattle.rinv_identities.proofs.GraphValues.{multiplies_out-same}
 use Rattle.rinv_identities.proofs.Walks.{position_from-agree}
 use Rattle.rinv_check.specs.Setting.{setting, change_fits}
@@ -127,20 +124,24 @@ module _ (p v l : ℕ) (action : List Poly) (n d : Poly) where
 
 -- ---- lists
 
+-- a test that holds of all holds of each
+all-from_test : {X : Type 0} (test : X → Bool) (xs : List X) → IsTrue (list_all test xs) → All (λ x. IsTrue (test x)) xs
+all-from_test test [] h = All-nil (λ x. IsTrue (test x))
+all-from_test test (x ∷ xs) h = let t = both (test x) (list_all test xs) h in All-cons (λ x. IsTrue (test x)) x xs t.0 (all-from_test test xs t.1)
+
 -- lists of cofactors have their form, whatever names its numbers go by
 pub cofactors-all : (p v n q w m : ℕ) (uss vss : List (List Poly)) → q ≡ p → w ≡ v → m ≡ n → vss ≡ uss → IsTrue (list_all (are_stored p v n) uss) → All (λ us. IsTrue (are_stored q w m us)) vss
 cofactors-all p v n q w m uss vss a b c e h = rw (a, b, c, e) (all-from_test (are_stored p v n) uss h)
-  where
-    all-from_test : {X : Type 0} (test : X → Bool) (xs : List X) → IsTrue (list_all test xs) → All (λ x. IsTrue (test x)) xs
-    all-from_test test [] h = All-nil (λ x. IsTrue (test x))
-    all-from_test test (x ∷ xs) h = let t = both (test x) (list_all test xs) h in All-cons (λ x. IsTrue (test x)) x xs t.0 (all-from_test test xs t.1)
 
--- the first failure is the one for the ideal and the parts as they stand in a system
-pub failure-alike : {E : Type 0} (p l q m : ℕ) (action action' gs fs : List Poly) (fractions fractions' : List Fraction) (uss vss : List (List Poly)) (result : Result (Option ℕ) E)
-    → q ≡ p → m ≡ l → action' ≡ action → fractions' ≡ fractions → vss ≡ uss → AllZip (IsSame (poly_ops (residue_ops p))) gs fs
-    → IfOk result (λ o. o ≡ position_from (λ x. not (invariance_is_shown (setting q m action' gs) x.0 x.1)) 1 (zip fractions' vss))
-    → IfOk result (λ o. o ≡ position_from (λ x. not (invariance_is_shown (setting p l action fs) x.0 x.1)) 1 (zip fractions uss))
-failure-alike p l q m action action' gs fs fractions fractions' uss vss (Err e) a b c d e' s h = tt
-failure-alike p l q m action action' gs fs fractions fractions' uss vss (Ok o) a b c d e s h =
-    (rw (a, b, c, d, e) at h)
-    ∙ position_from-agree (λ x. not (invariance_is_shown (setting p l action gs) x.0 x.1)) (λ x. not (invariance_is_shown (setting p l action fs) x.0 x.1)) (λ x. ap not (shown-ideal p l action gs fs s x)) 1 (zip fractions uss)
+-- the same of fractions
+pub fractions-all : (p v q w : ℕ) (fs gs : List Fraction) → q ≡ p → w ≡ v → gs ≡ fs → IsTrue (list_all (is_stored_fraction p v) fs) → All (λ f. IsTrue (is_stored_fraction q w f)) gs
+fractions-all p v q w fs gs a b e h = rw (a, b, e) (all-from_test (is_stored_fraction p v) fs h)
+
+-- the first failure is the system's
+pub failure-of_system : (s : System) (q m : ℕ) (action gs : List Poly) (fractions fs : List Fraction) (uss vss : List (List Poly))
+    → q ≡ s.p → m ≡ group_count s → action ≡ s.action → fs ≡ fractions → vss ≡ uss → AllZip (IsSame (poly_ops (residue_ops s.p))) gs s.ideal
+    → position_from (λ x. not (invariance_is_shown (setting q m action gs) x.0 x.1)) 1 (zip fs vss) ≡ position_from (λ x. not (invariance_is_shown s x.0 x.1)) 1 (zip fractions uss)
+failure-of_system s q m action gs fractions fs uss vss a b c d e same =
+    rw (a, b, c, d, e)
+    (position_from-agree (λ x. not (invariance_is_shown (setting s.p (group_count s) s.action gs) x.0 x.1)) (λ x. not (invariance_is_shown s x.0 x.1))
+    (λ x. ap not (shown-ideal s.p (group_count s) s.action gs s.ideal same x ∙ shown-setting s x)) 1 (zip fractions uss))

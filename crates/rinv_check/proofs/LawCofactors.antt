@@ -2,8 +2,8 @@
 --   lists-many, lists-form      for each part of a law a list, as long as the ideal's copies, in the variables of the parts
 --   lists-at, no-lists          the lists that stand at a law's place
 --   lists-of_law                the lists of a law, in the ring of its parts
-use Rattle.std.proofs.Common.{◌≡◌, ℕ, zero, suc, ◌+◌, ◌*◌, ◌<◌, ◌≤◌, List, [], ◌∷◌, ◌++◌, length, map, get_or, Bool, true, ◌&&◌, ◌==◌, IsTrue, Some, None, refl, sym, ap, ◌∙◌, subst, arith}
-use Rattle.std.specs.Prelude.{zip, slice_get, unwrap_or}
+use Rattle.std.proofs.Common.{◌≡◌, ℕ, zero, suc, ◌*◌, ◌<◌, ◌≤◌, List, [], ◌∷◌, ◌++◌, length, map, get_or, Bool, true, ◌==◌, IsTrue, Some, None, refl, sym, ap, ◌∙◌, subst, arith}
+use Rattle.std.specs.Prelude.{zip, slice_get}
 use Rattle.std.specs.List.{list_all, AllByRecursion}
 use Rattle.std.proofs.lemmas.Bool.{eqb-true}
 use Rattle.std.proofs.lemmas.List.{get_or_default}
@@ -11,7 +11,7 @@ use Rattle.std.proofs.lemmas.Option.{unwrap_or-slice_get}
 use Rattle.rinv_algebra.proofs.Same.{both}
 use Rattle.rinv_defs.proofs.Tests.{parts_true, first_false-append, first_false-append_right, zip_at}
 use Rattle.rinv_defs.proofs.PartCounts.{length-map, parts_few}
-use Rattle.rinv_defs.specs.System.{System, Poly, group_count, space_count}
+use Rattle.rinv_defs.specs.System.{System, Poly}
 use Rattle.rinv_defs.specs.SystemForm.{IsSystem, are_good}
 use Rattle.rinv_defs.specs.Laws.{Law, L1, L2, L3, L4, L5, L6, A1, A2, copies, parts}
 use Rattle.rinv_defs.specs.Certificate.{Certificate, Kind, invariance, sound, full}

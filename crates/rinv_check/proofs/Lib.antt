@@ -2,8 +2,10 @@ pub mod FirstFailures
 pub mod LawFits
 pub mod LawCofactors
 pub mod ShownParts
+pub mod ShownLaws
+pub mod LawWalks
 pub mod Changes
-pub mod FractionSettings
+pub mod StoredFractions
 pub mod PairWalks
 pub mod BasisParts
 pub mod StoredSystems

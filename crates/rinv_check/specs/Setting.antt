@@ -1,8 +1,7 @@
 -- What the invariance of fractions is tested over.
-use Rattle.std.specs.Prelude.{ℕ, List, [], ◌∷◌, Bool, ◌&&◌, replicate}
-use Rattle.rinv_algebra.specs.Ring.{IsSame}
+use Rattle.std.specs.Prelude.{ℕ, List, [], Bool, ◌&&◌, replicate}
 use Rattle.rinv_algebra.specs.Residue.{residue_ops}
-use Rattle.rinv_algebra.specs.Polynomial.{poly_ops, past}
+use Rattle.rinv_algebra.specs.Polynomial.{past}
 use Rattle.rinv_algebra.specs.Value.{substitute}
 use Rattle.rinv_algebra.specs.Fits.{product_fits, substitution_fits}
 use Rattle.rinv_defs.specs.System.{System, Poly}
