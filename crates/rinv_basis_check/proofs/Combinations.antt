@@ -8,7 +8,7 @@ use Rattle.std.specs.List.{list_all}
 use Rattle.std.proofs.lemmas.List.{drop_all}
 use Rattle.rinv_algebra.specs.Ring.{IsSame}
 use Rattle.rinv_algebra.specs.Residue.{residue_ops}
-use Rattle.rinv_algebra.specs.Polynomial.{poly_ops, same}
+use Rattle.rinv_algebra.specs.Polynomial.{poly_ops}
 use Rattle.rinv_algebra.specs.Ideal.{combination}
 use Rattle.rinv_algebra.specs.Fits.{product_fits, combination_fits, multiplies_out}
 use Rattle.rinv_algebra.proofs.Degrees.{same-left}

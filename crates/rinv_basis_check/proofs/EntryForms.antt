@@ -1,7 +1,7 @@
 -- The form of an entry, over the basis as it is stored.
 --   entry-in                      an entry of the right form speaks of elements of the basis
 --   pair-first, pair-second       the places of a pair
-use Rattle.std.proofs.Common.{◌≡◌, ℕ, ◌<◌, ◌≤◌, List, map, length, true, refl, sym, ap, ◌∙◌, arith}
+use Rattle.std.proofs.Common.{◌≡◌, ℕ, ◌<◌, ◌≤◌, length, true, refl, ap, ◌∙◌, arith}
 use Rattle.std.proofs.lemmas.Bool.Decides.{nat_tests}
 use Rattle.rinv_defs.specs.System.{Poly}
 use Rattle.rinv_defs.specs.Certificate.{Certificate}

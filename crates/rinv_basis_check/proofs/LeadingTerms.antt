@@ -2,7 +2,7 @@
 --   lead-vars                       the leading monomial has all variables
 --   lead-monomial, lead-coefficient the term whose monomial is the greatest
 --   lead-has                        the leading monomial is one that the polynomial has
-use Rattle.std.proofs.Common.{◌≡◌, ℕ, ◌<◌, Bool, true, false, List, [], ◌∷◌, length, get_or, map, All, refl, sym, ap, ◌∙◌, subst, nat_lt, IsTrue, true≢false}
+use Rattle.std.proofs.Common.{◌≡◌, ℕ, ◌<◌, true, false, List, [], ◌∷◌, length, get_or, map, All, refl, sym, ap, ◌∙◌, subst, nat_lt, IsTrue, true≢false}
 use Rattle.std.proofs.lemmas.List.Elements.{All-head, All-tail, Contains-get_or}
 use Rattle.std.specs.Ordering.{is_ge, ordering_reverse}
 use Rattle.std.specs.declared.cmp.Ordering.{Ordering}

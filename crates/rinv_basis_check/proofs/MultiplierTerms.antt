@@ -15,14 +15,14 @@ use Rattle.rinv_algebra.specs.Residue.{residue_ops}
 use Rattle.rinv_algebra.specs.Monomial.{monomial_product, quotient, lcm, total_degree, max_degree}
 use Rattle.rinv_algebra.specs.Normal.{is_normal_term}
 use Rattle.rinv_algebra.specs.Order.{block_order}
-use Rattle.rinv_algebra.specs.BlockEnds.{sizes_from, last_from}
+use Rattle.rinv_algebra.specs.BlockEnds.{sizes_from}
 use Rattle.rinv_algebra.specs.Polynomial.{Term, poly_ops, has_monomial, is_zero, product, term_product}
 use Rattle.rinv_algebra.specs.Leading.{IsLeadingMonomial, leading_monomial, leading_coefficient, multiplier}
 use Rattle.rinv_algebra.specs.Fits.{product_fits}
 use Rattle.rinv_algebra.proofs.ResidueLaws.{residue_laws}
 use Rattle.rinv_poly.proofs.Degrees.{product_fits-meet}
 use Rattle.rinv_poly.proofs.Forms.{ordered-from_normal, test-from_term}
-use Rattle.rinv_defs.specs.System.{System, Poly}
+use Rattle.rinv_defs.specs.System.{Poly}
 use Rattle.rinv_defs.specs.Certificate.{Certificate}
 use Rattle.rinv_defs.specs.Conditions.{elements}
 use Rattle.rinv_defs.specs.PairConditions.{action_order, leading, element, stays_below}

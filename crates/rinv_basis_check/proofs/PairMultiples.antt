@@ -3,7 +3,7 @@
 --   high-misfits                     where the least common multiple is over the limit, they do not fit
 --   lcm-swapped                      it does not depend on the order of the two
 --   difference-value                 the difference of two multiples is the S-polynomial
-use Rattle.std.proofs.Common.{◌≡◌, ℕ, ◌+◌, ◌<◌, Bool, true, false, not, List, [], ◌∷◌, max, refl, sym, ap, ap₂, ◌∙◌, subst, arith, inl, inr, IsTrue, true≢false, append-nil}
+use Rattle.std.proofs.Common.{◌≡◌, ℕ, ◌+◌, ◌<◌, Bool, true, false, not, List, [], ◌∷◌, refl, sym, ap, ap₂, ◌∙◌, subst, arith, inl, inr, true≢false, append-nil}
 use Rattle.std.proofs.lemmas.Bool.{cases_Bool}
 use Rattle.std.specs.List.{IsDistinct}
 use Rattle.std.specs.declared.cmp.Ordering.{Ordering}

@@ -14,11 +14,9 @@ use Rattle.std.proofs.lemmas.Bool.Decides.{nat_tests}
 use Rattle.rinv_algebra.specs.Monomial.{total_degree, max_degree}
 use Rattle.rinv_algebra.proofs.Same.{both, and_true}
 use Rattle.rinv_defs.proofs.Tests.{list_all-implies}
-use Rattle.rinv_defs.specs.System.{System, Poly, space_count}
-use Rattle.rinv_defs.specs.SystemForm.{is_good, is_nonzero}
-use Rattle.rinv_defs.specs.Invariant.{Fraction}
+use Rattle.rinv_defs.specs.System.{Poly}
 use Rattle.rinv_defs.specs.Certificate.{Certificate, RelationItem, TailItem, full}
-use Rattle.rinv_defs.specs.Format.{format_failure, is_relation_item, are_distinct}
+use Rattle.rinv_defs.specs.Format.{format_failure, are_distinct}
 use Rattle.rinv_defs.specs.Conditions.{vanishes_on_graph}
 use Rattle.rinv_defs.specs.RelationConditions.{z_power, behind_z, is_tail, is_tied_to, relation_of, relation_is_shown, relations_failure}
 use Rattle.rinv_cert.specs.declared.certificate.Tied.{Tied}

@@ -4,9 +4,8 @@
 --   power-degree, power-length, power-normal    Z to some exponents
 --   made-length, made-normal, made-same         as it is made
 --   behind-fits, behind-value                   its product with a polynomial in the space's variables
-use Rattle.std.proofs.Common.{◌≡◌, ℕ, zero, suc, ◌+◌, ◌*◌, ◌<◌, Bool, true, false, ◌&&◌, List, [], ◌∷◌, ◌++◌, length, map, replicate, get_or, take, sum, refl, sym, ap, ap₂, ◌∙◌, subst, arith, append-nil, ◌==◌, ◌≤◌, nat_lt, inl, inr, All, IsTrue}
+use Rattle.std.proofs.Common.{◌≡◌, ℕ, zero, suc, ◌+◌, true, false, List, [], ◌∷◌, ◌++◌, length, replicate, refl, sym, ap, ap₂, ◌∙◌, subst, arith, append-nil, ◌==◌, ◌≤◌, nat_lt, inl, inr, All, IsTrue}
 use Rattle.std.proofs.lemmas.Bool.Decides.{nat_tests}
-use Rattle.std.specs.List.{list_all}
 use Rattle.std.proofs.lemmas.Bool.{cases_Bool}
 use Rattle.std.proofs.lemmas.List.Elements.{All-nil, All-cons}
 use Rattle.std.proofs.lemmas.List.{length-append, length-replicate}
@@ -23,7 +22,7 @@ use Rattle.rinv_algebra.proofs.PolynomialLaws.{poly_laws}
 use Rattle.rinv_algebra.proofs.ResidueLaws.{residue_laws}
 use Rattle.rinv_algebra.proofs.ResidueField.{residue_field_laws}
 use Rattle.rinv_poly.proofs.Forms.{test-from_term}
-use Rattle.rinv_poly.proofs.Gather.{same-then, same-equal, same-refl, append-same}
+use Rattle.rinv_poly.proofs.Gather.{same-then, same-equal, same-refl}
 use Rattle.rinv_poly.proofs.Units.{term-same_monomial}
 use Rattle.rinv_defs.specs.System.{System, Poly}
 use Rattle.rinv_defs.specs.RelationConditions.{z_power, behind_z}

@@ -4,7 +4,7 @@
 --   lead-of, lead-length, lead-has      its leading monomial
 --   lcm-length                          a least common multiple has as many variables
 --   order-is                            the order by its blocks
-use Rattle.std.proofs.Common.{◌≡◌, ℕ, ◌+◌, ◌<◌, Bool, true, false, List, [], ◌∷◌, length, get_or, map, max, refl, sym, ap, ap₂, ◌∙◌, subst, arith, nat_lt, IsTrue}
+use Rattle.std.proofs.Common.{◌≡◌, ℕ, ◌+◌, ◌<◌, true, false, List, [], ◌∷◌, length, get_or, refl, sym, ap, ap₂, ◌∙◌, arith, nat_lt, IsTrue}
 use Rattle.std.proofs.lemmas.List.{get_or-map}
 use Rattle.std.proofs.lemmas.List.Elements.{All-get_or}
 use Rattle.rinv_algebra.specs.Residue.{residue_ops}
@@ -16,7 +16,7 @@ use Rattle.rinv_algebra.specs.Polynomial.{is_zero, has_monomial}
 use Rattle.rinv_algebra.specs.Leading.{leading_monomial}
 use Rattle.rinv_defs.specs.System.{Poly, group_count, space_count}
 use Rattle.rinv_defs.specs.Certificate.{Certificate}
-use Rattle.rinv_defs.specs.PairConditions.{action_order, leading, element}
+use Rattle.rinv_defs.specs.PairConditions.{leading, element}
 use Rattle.rinv_defs.proofs.PartCounts.{length-map}
 use Rattle.rinv_form.specs.Forms.{is_stored}
 use Rattle.rinv_basis_check.specs.declared.basis.Basis.{Basis}

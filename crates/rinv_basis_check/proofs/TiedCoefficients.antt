@@ -3,7 +3,7 @@
 --   constant-tied                                   a constant
 --   first-misfits, second-misfits, fraction-tied    a fraction
 --   fraction-is, fraction-stored                    the fraction with a number
-use Rattle.std.proofs.Common.{◌≡◌, ℕ, ◌+◌, ◌-◌, ◌<◌, ◌≤◌, length, Bool, true, false, ◌&&◌, List, [], ◌∷◌, get_or, refl, sym, ap, ◌∙◌, subst, arith, nat_lt, IsTrue}
+use Rattle.std.proofs.Common.{◌≡◌, ℕ, ◌+◌, ◌-◌, ◌<◌, ◌≤◌, length, Bool, true, false, ◌&&◌, List, [], get_or, refl, sym, ap, ◌∙◌, subst, arith, nat_lt, IsTrue}
 use Rattle.std.specs.List.{list_all}
 use Rattle.std.proofs.lemmas.Bool.Decides.{nat_tests}
 use Rattle.std.proofs.lemmas.List.{get_or_default}
@@ -26,7 +26,7 @@ use Rattle.rinv_poly.specs.Terms.{FitWith}
 use Rattle.rinv_poly.proofs.Degrees.{product_fits-from_terms}
 use Rattle.rinv_poly.proofs.Forms.{IsNormalTerm, ordered-from_normal}
 use Rattle.rinv_cert.specs.declared.certificate.Tied.{Tied}
-use Rattle.rinv_cert.specs.declared.certificate.Tied.TheVariants.{Constant, Generator}
+use Rattle.rinv_cert.specs.declared.certificate.Tied.TheVariants.{Generator}
 use Rattle.rinv_form.specs.Forms.{is_stored, is_stored_fraction}
 use Rattle.rinv_basis_check.specs.Relations.{is_tied_among}
 use Rattle.rinv_basis_check.proofs.PairEntries.{test_at}

@@ -1,7 +1,7 @@
 -- Whether a value on the graph vanishes, as its cofactors show, depends on the coefficients of the polynomial alone.
 --   substitution_fits-same    so does whether a substitution fits
 --   vanishes-same             the fact
-use Rattle.std.proofs.Common.{◌≡◌, ℕ, zero, suc, Bool, true, false, ◌&&◌, ◌==◌, List, [], ◌∷◌, ◌++◌, map, replicate, refl, sym, ap, ap₂, ◌∙◌, arith, IsTrue}
+use Rattle.std.proofs.Common.{◌≡◌, ℕ, Bool, true, ◌&&◌, ◌==◌, List, [], ◌∷◌, ◌++◌, map, replicate, refl, sym, ap, ap₂, ◌∙◌, arith, IsTrue}
 use Rattle.std.specs.List.{list_all}
 use Rattle.std.proofs.lemmas.Bool.Decides.{nat_tests}
 use Rattle.rinv_algebra.specs.Ring.{IsSame}
@@ -9,7 +9,7 @@ use Rattle.rinv_algebra.specs.Residue.{residue_ops}
 use Rattle.rinv_algebra.specs.Monomial.{same_monomial}
 use Rattle.rinv_algebra.specs.Polynomial.{poly_ops, coefficient, has_monomial, monomials, product, constant}
 use Rattle.rinv_algebra.specs.Value.{factors, substitute}
-use Rattle.rinv_algebra.specs.Fits.{product_fits, products_fit, substitution_fits, multiplies_out}
+use Rattle.rinv_algebra.specs.Fits.{products_fit, substitution_fits}
 use Rattle.rinv_algebra.proofs.Degrees.{iff-equal, product_fits-same, has_monomial-same}
 use Rattle.rinv_algebra.proofs.PolynomialLaws.{poly_laws}
 use Rattle.rinv_algebra.proofs.ResidueLaws.{residue_laws}

@@ -3,7 +3,9 @@ use Rattle.std.specs.Prelude.{◌≡◌, ℕ, List, [], ◌∷◌, Bool, ◌&&�
 use Rattle.std.specs.List.{list_all}
 use Rattle.std.specs.Ordering.{is_lt}
 use Rattle.rinv_algebra.specs.Order.{grevlex}
+use Rattle.rinv_algebra.specs.Ring.{IsSame}
 use Rattle.rinv_algebra.specs.Residue.{residue_ops}
+use Rattle.rinv_algebra.specs.Polynomial.{poly_ops, term_product}
 use Rattle.rinv_algebra.specs.Fits.{product_fits}
 use Rattle.rinv_defs.specs.System.{System, Poly, group_count, space_count}
 use Rattle.rinv_defs.specs.Certificate.{Certificate, RelationItem}
@@ -25,6 +27,14 @@ pub record AreRingsOf (s : System) (r : RelationRings) : Type 0 where
   pub field : r.graph.coeffs ≡ s.p
   pub group : r.group ≡ group_count s
   pub space : r.space.vars ≡ space_count s
+
+-- whether Z to these exponents times a polynomial in the space's variables fits
+abbrev pub power_fits : System → List ℕ → Poly → Bool
+power_fits s a f = product_fits (residue_ops s.p) (z_power s a ∷ []) (behind_z s f)
+
+-- the second polynomial is this product
+abbrev pub IsPowerMultiple : System → List ℕ → Poly → Poly → Type 0
+IsPowerMultiple s a f g = IsSame (poly_ops (residue_ops s.p)) g (term_product (residue_ops s.p) (z_power s a) (behind_z s f))
 
 -- the products of a relation fit
 abbrev pub relation_fits : System → RelationItem → Bool

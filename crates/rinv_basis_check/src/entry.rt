@@ -32,7 +32,8 @@ pub(crate) fn places(entry: &PairItem<KPoly>) -> (u32, u32)
 fn lead(basis: &Basis, number: u32) -> &Mono
     requires one { 1 ≤ number }
     requires inside { number ≤ length basis.now.leads.items }
-    ensures { (c : Certificate) → IsBasisOf c basis.now → result.now ≡ leading c.system (element c number) }
+    ensures { (c : Certificate) → IsBasisOf c basis.now →
+        result.now ≡ leading c.system (element c number) }
 {
     &basis.leads[number as usize - 1]
 }
@@ -45,7 +46,9 @@ fn settles(
     entry: &PairItem<KPoly>,
 ) -> Result<bool, NoMemory>
     requires form { is_pair_form_in basis.now entry.now ≡ true }
-    ensures { (c : Certificate) (earlier : List Item) → IsBasisOf c basis.now → ArePairsOf listed.now earlier → IfOk result (λ b. b ≡ settles c earlier (pair_item_by (λ f. f) entry.now)) }
+    ensures { (c : Certificate) (earlier : List Item) → IsBasisOf c basis.now →
+        ArePairsOf listed.now earlier →
+        IfOk result (λ b. b ≡ settles c earlier (pair_item_by (λ f. f) entry.now)) }
 {
     match entry {
         PairItem::Coprime { i, j } => Ok(coprime(lead(basis, *i), lead(basis, *j))),
@@ -69,7 +72,9 @@ pub(crate) fn is_good_entry(
     entry: &PairItem<KPoly>,
 ) -> Result<bool, NoMemory>
     requires form { is_pair_form_in basis.now entry.now ≡ true }
-    ensures { (c : Certificate) (earlier : List Item) → IsBasisOf c basis.now → ArePairsOf listed.now earlier → IfOk result (λ b. b ≡ is_good_entry c earlier (pair_item_by (λ f. f) entry.now)) }
+    ensures { (c : Certificate) (earlier : List Item) → IsBasisOf c basis.now →
+        ArePairsOf listed.now earlier →
+        IfOk result (λ b. b ≡ is_good_entry c earlier (pair_item_by (λ f. f) entry.now)) }
 {
     let (i, j) = places(entry);
     if listed.has(i, j) {

@@ -1,20 +1,18 @@
 //! An S-polynomial that reduces to zero, as its quotients show.
 
-ghost use Rattle.std.specs.Prelude.{◌≡◌, ◌<◌, ◌+◌, [], ◌∷◌, length, zip, IsTrue, IfOk, IfSome, is_some, ◌&&◌, false, true, get_or};
+ghost use Rattle.std.specs.Prelude.{◌≡◌, ◌<◌, ◌+◌, [], length, zip, IsTrue, IfOk, IfSome, is_some, false, true, get_or};
 ghost use Rattle.std.specs.List.{list_all};
-ghost use Rattle.std.specs.Ordering.{is_lt};
-ghost use Rattle.rinv_algebra.specs.Ring.{IsSame};
 ghost use Rattle.rinv_algebra.specs.Residue.{residue_ops};
 ghost use Rattle.rinv_algebra.specs.Monomial.{lcm};
-ghost use Rattle.rinv_algebra.specs.Polynomial.{poly_ops, is_zero, term_product};
+ghost use Rattle.rinv_algebra.specs.Polynomial.{is_zero};
 ghost use Rattle.rinv_algebra.specs.Leading.{multiplier};
 ghost use Rattle.rinv_algebra.specs.Fits.{product_fits, combination_fits};
 ghost use Rattle.rinv_defs.specs.Conditions.{elements};
-ghost use Rattle.rinv_defs.specs.System.{Poly};
 ghost use Rattle.rinv_defs.specs.Certificate.{Certificate};
-ghost use Rattle.rinv_defs.specs.PairConditions.{element, action_order, reduces_to_zero, stays_below};
+ghost use Rattle.rinv_defs.specs.PairConditions.{element, reduces_to_zero, stays_below};
 ghost use Rattle.rinv_form.specs.Forms.{is_stored, are_stored};
 ghost use Rattle.rinv_basis_check.specs.Bases.{IsBasisOf};
+ghost use Rattle.rinv_basis_check.specs.Multiples.{multiple_fits, IsMultiple};
 
 use crate::basis::Basis;
 use crate::elements::lead_of;
@@ -36,9 +34,11 @@ fn multiple(
     requires first { f < length basis.now.elements.items }
     requires second { g < length basis.now.elements.items }
     requires common { common.now ≡ lcm (get_or basis.now.leads.items f []) (get_or basis.now.leads.items g []) }
-    ensures fits { (c : Certificate) → IsBasisOf c basis.now → IfOk result (λ o. is_some o ≡ product_fits (residue_ops c.system.p) (multiplier (residue_ops c.system.p) (action_order c.system) (element c (f + 1)) (element c (g + 1)) ∷ []) (element c (f + 1))) }
+    ensures fits { (c : Certificate) → IsBasisOf c basis.now →
+        IfOk result (λ o. is_some o ≡ multiple_fits c (f + 1) (g + 1)) }
     ensures element { IfOk result (λ o. IfSome o (λ r. IsTrue (is_stored basis.now.ring.coeffs basis.now.ring.vars r))) }
-    ensures value { (c : Certificate) → IsBasisOf c basis.now → IfOk result (λ o. IfSome o (λ r. IsSame (poly_ops (residue_ops c.system.p)) r (term_product (residue_ops c.system.p) (multiplier (residue_ops c.system.p) (action_order c.system) (element c (f + 1)) (element c (g + 1))) (element c (f + 1))))) }
+    ensures value { (c : Certificate) → IsBasisOf c basis.now →
+        IfOk result (λ o. IfSome o (IsMultiple c (f + 1) (g + 1))) }
 {
     let ring = &basis.ring;
     let mono = common.quotient(alloc, &basis.leads[f])?;
@@ -69,7 +69,8 @@ fn stays_below(
     requires quotient { IsTrue (is_stored basis.now.ring.coeffs basis.now.ring.vars quotient.now) }
     requires common { length common.now ≡ basis.now.ring.vars }
     requires fits { product_fits (residue_ops basis.now.ring.coeffs) quotient.now (get_or basis.now.elements.items place []) ≡ true }
-    ensures { (c : Certificate) → IsBasisOf c basis.now → IfOk result (λ b. b ≡ stays_below c.system common.now (quotient.now, element c (place + 1))) }
+    ensures { (c : Certificate) → IsBasisOf c basis.now →
+        IfOk result (λ b. b ≡ stays_below c.system common.now (quotient.now, element c (place + 1))) }
 {
     let ring = &basis.ring;
     if ring.is_zero(quotient) {
@@ -94,7 +95,8 @@ fn all_stay_below(
     requires quotients { IsTrue (list_all (is_stored basis.now.ring.coeffs basis.now.ring.vars) quotients.now) }
     requires common { length common.now ≡ basis.now.ring.vars }
     requires fits { combination_fits (residue_ops basis.now.ring.coeffs) quotients.now basis.now.elements.items ≡ true }
-    ensures { (c : Certificate) → IsBasisOf c basis.now → IfOk result (λ b. b ≡ list_all (stays_below c.system common.now) (zip quotients.now (elements c))) }
+    ensures { (c : Certificate) → IsBasisOf c basis.now →
+        IfOk result (λ b. b ≡ list_all (stays_below c.system common.now) (zip quotients.now (elements c))) }
 {
     'quotients: for k in 0..quotients.len() {
         if !stays_below(alloc, basis, common, &quotients[k], k)? {
@@ -116,7 +118,8 @@ pub(crate) fn reduces_to_zero(
     requires first { f < length basis.now.elements.items }
     requires second { g < length basis.now.elements.items }
     requires quotients { IsTrue (are_stored basis.now.ring.coeffs basis.now.ring.vars (length basis.now.elements.items) quotients.now) }
-    ensures { (c : Certificate) → IsBasisOf c basis.now → IfOk result (λ b. b ≡ reduces_to_zero c (element c (f + 1)) (element c (g + 1)) quotients.now) }
+    ensures { (c : Certificate) → IsBasisOf c basis.now →
+        IfOk result (λ b. b ≡ reduces_to_zero c (element c (f + 1)) (element c (g + 1)) quotients.now) }
 {
     let common = match basis.leads[f].lcm(alloc, &basis.leads[g]) {
         Ok(common) => common,

@@ -3,14 +3,19 @@
 ghost use Rattle.std.specs.Prelude.{◌≡◌, ◌++◌, [], ◌∷◌, replicate, true, IsTrue, IfOk, IfSome, is_some};
 ghost use Rattle.rinv_algebra.specs.Ring.{IsSame};
 ghost use Rattle.rinv_algebra.specs.Residue.{residue_ops};
-ghost use Rattle.rinv_algebra.specs.Polynomial.{poly_ops, term_product};
-ghost use Rattle.rinv_algebra.specs.Fits.{product_fits};
+ghost use Rattle.rinv_algebra.specs.Polynomial.{poly_ops};
 ghost use Rattle.rinv_defs.specs.System.{System};
-ghost use Rattle.rinv_defs.specs.RelationConditions.{z_power, behind_z, relation_of};
+ghost use Rattle.rinv_defs.specs.RelationConditions.{z_power, relation_of};
 ghost use Rattle.rinv_cert.specs.Seen.{relation_item_by};
 ghost use Rattle.rinv_form.specs.Forms.{is_stored};
 ghost use Rattle.rinv_form.specs.ItemForms.{are_exponents};
-ghost use Rattle.rinv_basis_check.specs.Relations.{AreRingsOf, relation_fits, is_relation_in};
+ghost use Rattle.rinv_basis_check.specs.Relations.{
+  AreRingsOf,
+  IsPowerMultiple,
+  is_relation_in,
+  power_fits,
+  relation_fits,
+};
 
 use crate::rings::RelationRings;
 use rinv_cert::RelationItem;
@@ -47,9 +52,11 @@ fn multiple(
 ) -> Result<Option<KPoly>, NoMemory>
     requires exponents { are_exponents rings.now.space.vars exponents.now ≡ true }
     requires polynomial { IsTrue (is_stored rings.now.space.coeffs rings.now.space.vars f.now) }
-    ensures fits { (s : System) → AreRingsOf s rings.now → IfOk result (λ o. is_some o ≡ product_fits (residue_ops s.p) (z_power s exponents.now ∷ []) (behind_z s f.now)) }
+    ensures fits { (s : System) → AreRingsOf s rings.now →
+        IfOk result (λ o. is_some o ≡ power_fits s exponents.now f.now) }
     ensures element { IfOk result (λ o. IfSome o (λ r. IsTrue (is_stored rings.now.graph.coeffs rings.now.graph.vars r))) }
-    ensures value { (s : System) → AreRingsOf s rings.now → IfOk result (λ o. IfSome o (λ r. IsSame (poly_ops (residue_ops s.p)) r (term_product (residue_ops s.p) (z_power s exponents.now) (behind_z s f.now)))) }
+    ensures value { (s : System) → AreRingsOf s rings.now →
+        IfOk result (λ o. IfSome o (IsPowerMultiple s exponents.now f.now)) }
 {
     let power = z_power(alloc, rings, exponents)?;
     let before = rings.group + rings.space.vars();
@@ -68,9 +75,11 @@ pub(crate) fn relation_polynomial(
     relation: &RelationItem<KPoly>,
 ) -> Result<Option<KPoly>, NoMemory>
     requires { is_relation_in rings.now relation.now ≡ true }
-    ensures fits { (s : System) → AreRingsOf s rings.now → IfOk result (λ o. is_some o ≡ relation_fits s (relation_item_by (λ f. f) relation.now)) }
+    ensures fits { (s : System) → AreRingsOf s rings.now →
+        IfOk result (λ o. is_some o ≡ relation_fits s (relation_item_by (λ f. f) relation.now)) }
     ensures element { IfOk result (λ o. IfSome o (λ r. IsTrue (is_stored rings.now.graph.coeffs rings.now.graph.vars r))) }
-    ensures value { (s : System) → AreRingsOf s rings.now → IfOk result (λ o. IfSome o (λ r. IsSame (poly_ops (residue_ops s.p)) r (relation_of s (relation_item_by (λ f. f) relation.now)))) }
+    ensures value { (s : System) → AreRingsOf s rings.now →
+        IfOk result (λ o. IfSome o (λ r. IsSame (poly_ops (residue_ops s.p)) r (relation_of s (relation_item_by (λ f. f) relation.now)))) }
 {
     let Some(lead) = multiple(alloc, rings, relation.a.as_slice(), &relation.d)? else {
         return Ok(None);

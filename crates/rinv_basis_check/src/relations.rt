@@ -57,7 +57,8 @@ fn are_tails(
     requires space { rings.now.space.vars ≡ sizes.now.space }
     requires many { length fractions.now ≡ sizes.now.fractions }
     requires fractions { IsTrue (list_all (is_stored_fraction sizes.now.field sizes.now.space) fractions.now) }
-    ensures { (c : Certificate) → IsSized c sizes.now → fractions.now ≡ c.fractions → IfOk result (λ b. b ≡ tails_are c (relation_item_by (λ f. f) relation.now)) }
+    ensures { (c : Certificate) → IsSized c sizes.now → fractions.now ≡ c.fractions →
+        IfOk result (λ b. b ≡ tails_are c (relation_item_by (λ f. f) relation.now)) }
 {
     let tail = relation.tail.as_slice();
     'tail: for k in 0..tail.len() {
@@ -95,7 +96,9 @@ fn relation_is_shown(
     requires ring { graph.now.ring.vars ≡ sizes.now.graph }
     requires whole { graph.now.whole.vars ≡ sizes.now.whole }
     requires ideal { length graph.now.ideal.items ≡ sizes.now.ideal }
-    ensures { (c : Certificate) → IsSized c sizes.now → fractions.now ≡ c.fractions → IsGraph c.system graph.now → IfOk result (λ b. b ≡ relation_is_shown c (relation_item_by (λ f. f) relation.now)) }
+    ensures { (c : Certificate) → IsSized c sizes.now → fractions.now ≡ c.fractions →
+        IsGraph c.system graph.now →
+        IfOk result (λ b. b ≡ relation_is_shown c (relation_item_by (λ f. f) relation.now)) }
 {
     let rings = relation_rings(sizes);
     let Some(polynomial) = relation_polynomial(alloc, &rings, relation)? else {

@@ -60,7 +60,8 @@ fn is_constant(
     requires denominator { IsTrue (is_stored ring.now.coeffs ring.now.vars d.now) }
     requires numerator { IsTrue (is_stored ring.now.coeffs ring.now.vars u.now) }
     requires residue { v < ring.now.coeffs }
-    ensures { (c : Certificate) → ring.now.coeffs ≡ c.system.p → IfOk result (λ b. b ≡ is_tied_to c d.now u.now (to_constant v)) }
+    ensures { (c : Certificate) → ring.now.coeffs ≡ c.system.p →
+        IfOk result (λ b. b ≡ is_tied_to c d.now u.now (to_constant v)) }
 {
     // Residues times residues are residues: want of memory is the only fault.
     let Ok(multiple) = ring.scale(alloc, &v, d) else {
@@ -81,7 +82,9 @@ fn is_fraction(
     requires denominator { IsTrue (is_stored ring.now.coeffs ring.now.vars d.now) }
     requires numerator { IsTrue (is_stored ring.now.coeffs ring.now.vars u.now) }
     requires fraction { IsTrue (is_stored_fraction ring.now.coeffs ring.now.vars fraction.now) }
-    ensures { (c : Certificate) (k : ℕ) → ring.now.coeffs ≡ c.system.p → fraction.now ≡ fraction_at c k → IfOk result (λ b. b ≡ is_tied_to c d.now u.now (to_generator k)) }
+    ensures { (c : Certificate) (k : ℕ) → ring.now.coeffs ≡ c.system.p →
+        fraction.now ≡ fraction_at c k →
+        IfOk result (λ b. b ≡ is_tied_to c d.now u.now (to_generator k)) }
 {
     let Some(left) = fitting(alloc, ring, u, &fraction.1)? else {
         return Ok(false);
@@ -106,7 +109,8 @@ pub(crate) fn is_tied_to(
     requires numerator { IsTrue (is_stored ring.now.coeffs ring.now.vars u.now) }
     requires fractions { IsTrue (list_all (is_stored_fraction ring.now.coeffs ring.now.vars) fractions.now) }
     requires tied { is_tied_among ring.now.coeffs (length fractions.now) tied.now ≡ true }
-    ensures { (c : Certificate) → ring.now.coeffs ≡ c.system.p → fractions.now ≡ c.fractions → IfOk result (λ b. b ≡ is_tied_to c d.now u.now (tied_of tied.now)) }
+    ensures { (c : Certificate) → ring.now.coeffs ≡ c.system.p → fractions.now ≡ c.fractions →
+        IfOk result (λ b. b ≡ is_tied_to c d.now u.now (tied_of tied.now)) }
 {
     match tied {
         Tied::Constant { v } => {

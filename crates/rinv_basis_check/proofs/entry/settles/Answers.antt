@@ -1,4 +1,4 @@
-use Rattle.std.proofs.Common.{◌≡◌, true, false, sym, ap, ◌∙◌, true≢false}
+use Rattle.std.proofs.Common.{sym, ◌∙◌, true≢false}
 use Rattle.rinv_algebra.specs.Monomial.{divides, lcm}
 use Rattle.rinv_basis_check.specs.Listed.{is_listed}
 use Rattle.rinv_basis_check.proofs.EntryTests.{coprime-settles, chain-settles, quotients-settle, both-listed, not-listed, no-divisor}

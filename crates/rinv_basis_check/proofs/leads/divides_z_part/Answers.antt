@@ -1,4 +1,3 @@
-use Rattle.std.proofs.Common.{sym, ◌∙◌}
 use Rattle.rinv_basis_check.proofs.LeadTests.{z-over, z-within, z-end}
 use Rattle.rinv_basis_check.proofs.leads.divides_z_part.Goals as goal
 

@@ -1,4 +1,4 @@
-use Rattle.std.proofs.Common.{◌≡◌, ◌+◌, length, take, drop}
+use Rattle.std.proofs.Common.{◌≡◌, length, take, drop}
 use Rattle.rinv_algebra.specs.Monomial.{divides}
 use Rattle.rinv_basis_check.proofs.leads.divides_z_part.Given as goal
 

@@ -1,7 +1,7 @@
-use Rattle.std.proofs.Common.{◌≡◌, ℕ, ◌+◌, ◌*◌, ◌<◌, [], length, map, get_or, not, false, true, Some, refl, sym, ap, ◌∙◌, subst, arith}
-use Rattle.rinv_defs.specs.System.{Poly, group_count, space_count}
+use Rattle.std.proofs.Common.{◌≡◌, ℕ, ◌<◌, [], length, map, get_or, not, false, Some, refl, sym, ap, ◌∙◌, subst, arith}
+use Rattle.rinv_defs.specs.System.{Poly}
 use Rattle.rinv_defs.specs.PairConditions.{leading}
-use Rattle.rinv_defs.specs.RelationConditions.{is_covered, leads_failure}
+use Rattle.rinv_defs.specs.RelationConditions.{is_covered}
 use Rattle.rinv_cert.specs.Seen.{plain, kind_of, relation_item_by}
 use Rattle.rinv_identities.proofs.Walks.{walk-more, walk-stop, walk-end}
 use Rattle.rinv_basis_check.proofs.StoredElements.{leads-many, lead-length, lead-of, leading-is}

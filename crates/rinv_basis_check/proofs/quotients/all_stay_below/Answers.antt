@@ -1,11 +1,7 @@
 use Rattle.std.proofs.lemmas.List.{get_or_default}
-use Rattle.std.proofs.Common.{◌≡◌, ℕ, ◌+◌, ◌<◌, ◌≤◌, [], ◌∷◌, length, zip, get_or, drop, true, false, sym, ap, ◌∙◌, subst, arith}
-use Rattle.rinv_algebra.specs.Residue.{residue_ops}
+use Rattle.std.proofs.Common.{◌+◌, ◌<◌, [], length, zip, get_or, drop, sym, ◌∙◌, arith}
 use Rattle.rinv_defs.specs.Conditions.{elements}
 use Rattle.rinv_defs.specs.PairConditions.{element, stays_below}
-use Rattle.rinv_defs.specs.Certificate.{Certificate}
-use Rattle.rinv_defs.specs.System.{Poly}
-use Rattle.rinv_basis_check.proofs.StoredElements.{number-is}
 use Rattle.rinv_basis_check.proofs.Combinations.{fits-at, all-next, all-fails, all-ends}
 use Rattle.rinv_basis_check.proofs.MultiplierTerms.{pair-at, pairs-past}
 use Rattle.rinv_basis_check.proofs.quotients.all_stay_below.Goals as goal

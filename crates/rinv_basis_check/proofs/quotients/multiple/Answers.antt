@@ -1,5 +1,5 @@
 use Rattle.std.proofs.Common.{◌≡◌, ℕ, ◌<◌, List, [], length, sym, ap, ◌∙◌, subst, subst₂, IsTrue, false}
-use Rattle.rinv_algebra.specs.Monomial.{lcm, divides}
+use Rattle.rinv_algebra.specs.Monomial.{divides}
 use Rattle.rinv_algebra.specs.Residue.{residue_ops}
 use Rattle.rinv_algebra.specs.Fits.{product_fits}
 use Rattle.rinv_groebner.proofs.MonomialLists.{lcm_left}

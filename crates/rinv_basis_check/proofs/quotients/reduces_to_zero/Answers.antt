@@ -1,4 +1,4 @@
-use Rattle.std.proofs.Common.{◌≡◌, ℕ, ◌+◌, ◌<◌, List, [], true, false, sym, ap, ap₂, ◌∙◌, subst, subst₂, refl}
+use Rattle.std.proofs.Common.{ℕ, ◌+◌, ◌<◌, List, sym, ap, ap₂, ◌∙◌, subst, subst₂, refl}
 use Rattle.rinv_algebra.specs.Monomial.{lcm, total_degree, max_degree}
 use Rattle.rinv_algebra.specs.Residue.{residue_ops}
 use Rattle.rinv_algebra.specs.Fits.{multiplies_out}

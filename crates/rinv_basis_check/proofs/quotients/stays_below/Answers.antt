@@ -1,16 +1,16 @@
-use Rattle.std.proofs.Common.{◌≡◌, ℕ, ◌+◌, ◌<◌, [], length, get_or, sym, ap, ◌∙◌, subst, arith, false}
+use Rattle.std.proofs.Common.{◌≡◌, ℕ, ◌+◌, ◌<◌, [], length, get_or, sym, ap, ◌∙◌, subst, false}
 use Rattle.std.proofs.lemmas.Cmp.{is_lt_index}
 use Rattle.rinv_algebra.specs.Monomial.{total_degree, max_degree}
 use Rattle.rinv_algebra.specs.Residue.{residue_ops}
-use Rattle.rinv_algebra.specs.Order.{block_order}
-use Rattle.rinv_algebra.specs.BlockEnds.{sizes_from}
-use Rattle.rinv_algebra.specs.Polynomial.{is_zero, has_monomial}
-use Rattle.rinv_algebra.specs.Leading.{leading_monomial}
+use Rattle.rinv_algebra.specs.Polynomial.{is_zero}
 use Rattle.rinv_mono.specs.Fault.{DegreesAre}
 use Rattle.rinv_basis_check.proofs.LeadingTerms as terms
 use Rattle.rinv_basis_check.proofs.StoredElements.{leads-many, lead-length, lead-listed, lead-of}
 use Rattle.rinv_basis_check.proofs.MultiplierTerms.{own, fits-low, below-zero, below-is}
 use Rattle.rinv_basis_check.proofs.quotients.stays_below.Goals as goal
+
+pub returns-then-is_zero : goal.returns-then-is_zero
+returns-then-is_zero c = λ cert is. below-zero cert c.args.basis.now is c.args.common.now c.args.quotient.now c.args.place c.requires.inside (sym c.is_zero.ensures ∙ c.if-is_zero.true)
 
 pub product-requires : goal.product-requires
 product-requires c =

@@ -1,4 +1,4 @@
-use Rattle.std.proofs.Common.{◌≡◌, ℕ, ◌+◌, ◌<◌, ◌≤◌, List, ◌++◌, length, replicate, sym, ap, ap₂, ◌∙◌, subst, arith}
+use Rattle.std.proofs.Common.{◌≡◌, ℕ, ◌≤◌, List, ◌++◌, length, replicate, ap, ap₂, ◌∙◌, subst, arith}
 use Rattle.rinv_basis_check.proofs.PairMultiples.{one-distinct}
 use Rattle.rinv_basis_check.proofs.RelationTerms.{made-length, made-normal, made-same}
 use Rattle.rinv_basis_check.proofs.relation.z_power.Goals as goal

@@ -1,4 +1,4 @@
-use Rattle.std.proofs.Common.{◌≡◌, ℕ, ◌^◌, ◌<◌, ◌≤◌, List, length, true, false, sym, ap, ap₂, ◌∙◌, subst, arith}
+use Rattle.std.proofs.Common.{◌≡◌, ℕ, ◌≤◌, List, length, true, false, sym, ap, ap₂, ◌∙◌, subst, arith}
 use Rattle.std.specs.Ordering.{is_lt}
 use Rattle.rinv_algebra.specs.Monomial.{total_degree, max_degree}
 use Rattle.rinv_algebra.specs.Order.{grevlex}

@@ -1,9 +1,6 @@
-use Rattle.std.proofs.Common.{◌≡◌, ℕ, List, Bool, true, take, ◌&&◌}
+use Rattle.std.proofs.Common.{◌≡◌, true, take}
 use Rattle.std.specs.List.{list_all}
-use Rattle.std.specs.Ordering.{is_lt}
-use Rattle.rinv_algebra.specs.Order.{grevlex}
 use Rattle.rinv_defs.specs.Certificate.{Certificate}
-use Rattle.rinv_defs.specs.RelationConditions.{is_tied_to}
 use Rattle.rinv_form.specs.Sized.{IsSized}
 use Rattle.rinv_basis_check.proofs.TailTests.{is_shown}
 use Rattle.rinv_basis_check.proofs.relations.are_tails.Given as goal

@@ -1,4 +1,4 @@
-use Rattle.std.proofs.Common.{◌≡◌, ℕ, ◌+◌, List, true, false, IsTrue, refl, sym, ap, ap₂, ◌∙◌, subst, arith}
+use Rattle.std.proofs.Common.{◌≡◌, ℕ, IsTrue, refl, sym, ap, ◌∙◌, subst, arith}
 use Rattle.rinv_algebra.specs.Ring.{IsSame}
 use Rattle.rinv_algebra.specs.Residue.{residue_ops}
 use Rattle.rinv_algebra.specs.Polynomial.{poly_ops}
@@ -8,7 +8,7 @@ use Rattle.rinv_defs.specs.RelationConditions.{relation_of}
 use Rattle.rinv_cert.specs.Seen.{relation_item_by}
 use Rattle.rinv_cert.proofs.Same.{map-same}
 use Rattle.rinv_form.specs.Forms.{is_stored}
-use Rattle.rinv_basis_check.specs.Relations.{AreRingsOf, relation_fits}
+use Rattle.rinv_basis_check.specs.Relations.{AreRingsOf}
 use Rattle.rinv_basis_check.proofs.RelationForms.{form-in, unfit-fails, tail-fails, graph-decides}
 use Rattle.rinv_basis_check.proofs.ValuesOfSame.{vanishes-same}
 use Rattle.rinv_basis_check.proofs.relations.relation_is_shown.Goals as goal

@@ -1,4 +1,4 @@
-use Rattle.std.proofs.Common.{◌≡◌, ℕ, List, Bool, length, not, true, false, Some, sym, ap, ◌∙◌}
+use Rattle.std.proofs.Common.{ℕ, List, Bool, not, Some, sym, ap, ◌∙◌}
 use Rattle.std.proofs.lemmas.List.Elements.{length_all_zip}
 use Rattle.rinv_defs.specs.System.{Poly}
 use Rattle.rinv_defs.specs.RelationConditions.{relation_is_shown}
