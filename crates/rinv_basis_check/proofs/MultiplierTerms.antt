@@ -4,7 +4,7 @@
 --   coefficient-normal, coefficient-is  the coefficient of a leading term
 --   made-fits, made-value               the product with the multiplier
 --   fits-low                            where a product fits, the degrees of leading monomials add up within the limit
---   below-zero, below-is                whether a quotient times its element stays below a monomial
+--   below-is                            whether a quotient times its element stays below a monomial
 use Rattle.std.proofs.Common.{◌≡◌, ℕ, zero, suc, ◌+◌, ◌<◌, ◌≤◌, Bool, true, false, ◌||◌, List, [], ◌∷◌, length, zip, drop, get_or, All, refl, sym, ap, ap₂, ◌∙◌, subst, nat_lt, IsTrue, true≢false, arith}
 use Rattle.std.proofs.lemmas.List.{get_or_default}
 use Rattle.std.proofs.lemmas.List.Elements.{All-nil, All-cons}
@@ -114,9 +114,6 @@ module _ (c : Certificate) (b : Basis) (is : IsBasisOf c b) where
 
   -- whether a quotient times its element stays below a monomial
   module _ (common : List ℕ) (q : Poly) (k : ℕ) (few : k < length b.elements.items) where
-    pub below-zero : is_zero (residue_ops b.ring.coeffs) q ≡ true → true ≡ stays_below c.system common (q, element c (k + 1))
-    below-zero e = sym (ap (λ (z : Bool). z || is_lt (action_order c.system (monomial_product (leading c.system q) (leading c.system (element c (k + 1)))) common)) (sym (ap (λ (p : ℕ). is_zero (residue_ops p) q) is.field) ∙ e))
-
     pub below-is : is_zero (residue_ops b.ring.coeffs) q ≡ false → (lead other m : List ℕ) → lead ≡ leading_monomial (residue_ops b.ring.coeffs) (block_order (sizes_from 0 b.order)) q → other ≡ get_or b.leads.items k other → m ≡ monomial_product lead other
         → (o : Ordering) → o ≡ block_order (sizes_from 0 b.order) m common → is_lt o ≡ stays_below c.system common (q, element c (k + 1))
     below-is off lead other m is_lead at is_m o is_o =

@@ -6,11 +6,8 @@ use Rattle.rinv_algebra.specs.Polynomial.{is_zero}
 use Rattle.rinv_mono.specs.Fault.{DegreesAre}
 use Rattle.rinv_basis_check.proofs.LeadingTerms as terms
 use Rattle.rinv_basis_check.proofs.StoredElements.{leads-many, lead-length, lead-listed, lead-of}
-use Rattle.rinv_basis_check.proofs.MultiplierTerms.{own, fits-low, below-zero, below-is}
+use Rattle.rinv_basis_check.proofs.MultiplierTerms.{own, fits-low, below-is}
 use Rattle.rinv_basis_check.proofs.quotients.stays_below.Goals as goal
-
-pub returns-then-is_zero : goal.returns-then-is_zero
-returns-then-is_zero c = λ cert is. below-zero cert c.args.basis.now is c.args.common.now c.args.quotient.now c.args.place c.requires.inside (sym c.is_zero.ensures ∙ c.if-is_zero.true)
 
 pub product-requires : goal.product-requires
 product-requires c =
