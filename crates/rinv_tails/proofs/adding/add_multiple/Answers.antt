@@ -1,6 +1,6 @@
 use Rattle.std.proofs.Common.{◌≡◌, ◌∙◌, ℕ, List, sym, subst, ap, arith}
 use Rattle.std.proofs.lemmas.Result.{err_from_is_err_and}
-use Rattle.rinv_tails.proofs.Multiples.{adding-start}
+use Rattle.rinv_tails.proofs.Multiples.{adding-start, adding-more, adding-all, product-meets, sum-meets, factor-below, factor-low, product-term}
 use Rattle.rinv_tails.proofs.adding.add_multiple.Goals as goal
 
 pub terms-init : goal.terms-init
