@@ -2,20 +2,22 @@
 --   graph_at, graph-is       the graph's element at a place; the graph is these
 --   places-distinct          the places of the group's variables and of the space's
 --   ideal-joined             the generators, of three lists
-use Rattle.std.proofs.Common.{◌≡◌, ℕ, zero, suc, ◌+◌, ◌*◌, ◌<◌, ◌≤◌, List, [], ◌∷◌, ◌++◌, length, map, get_or, refl, sym, ap, ap₂, ◌∙◌, subst, arith, All, AllPairs}
+use Rattle.std.proofs.Common.{◌≡◌, ℕ, zero, suc, ◌+◌, ◌*◌, ◌<◌, ◌≤◌, List, [], ◌∷◌, ◌++◌, length, map, take, take_all, get_or, nat_lt, refl, sym, ap, ap₂, ◌∙◌, subst, arith, All, AllPairs}
 use Rattle.std.specs.List.{AllZip, range_with_len, zip}
 use Rattle.std.proofs.lemmas.List.{map-append, length-map, get_or-map}
-use Rattle.std.proofs.lemmas.List.Elements.{All-nil, All-cons, All-head, All-tail, All-append, All-weaker}
+use Rattle.std.proofs.lemmas.List.Elements.{All-nil, All-cons, All-head, All-tail, All-append, All-weaker, AllZip-push}
 use Rattle.std.proofs.lemmas.List.FromFn.{length-range_with_len, get_or-range_with_len, get_or-map-range_with_len, length-map-range_with_len, fill_by_all}
 use Rattle.std.proofs.lemmas.List.Kept.{AllPairs-cons}
 use Rattle.rinv_algebra.specs.Residue.{residue_ops}
 use Rattle.rinv_algebra.specs.Polynomial.{variable, difference, past}
+use Rattle.rinv_algebra.specs.Normal.{IsNormal}
 use Rattle.rinv_algebra.specs.Value.{rename, substitute}
 use Rattle.rinv_sub.specs.Places.{ArePlaces}
 use Rattle.rinv_sub.proofs.Images.{AllZip-append}
 use Rattle.rinv_defs.specs.System.{System, Poly, group_count, space_count, group_copy, variables, moved, differences, at_point}
 use Rattle.rinv_defs.specs.Extended.{graph, action_ideal}
-use Rattle.rinv_parts.specs.Points.{AreStored, IsStoredIn}
+use Rattle.rinv_parts.specs.Points.{ArePolynomials, AreStored, IsStoredIn}
+use Rattle.rinv_tails.proofs.Tails.{take-at}
 use Rattle.rinv_parts.proofs.Names.{range-places}
 use Rattle.rinv_reduction.specs.Localised.{all_count}
 
@@ -98,3 +100,18 @@ module _ (s : System) where
   pub ideal-joined : (v : ℕ) (a b c all : List Poly) → all ≡ (a ++ b) ++ c → AreStored s.p v s.ideal a → AreStored s.p v (graph s) b → AreStored s.p v (map (past (group_count s)) s.section) c → AreStored s.p v (action_ideal s) all
   ideal-joined v a b c all e ha hb hc = subst (AreStored s.p v (action_ideal s)) (sym e)
       (AllZip-append (IsStoredIn s.p v) (s.ideal ++ graph s) (map (past (group_count s)) s.section) (a ++ b) c (AllZip-append (IsStoredIn s.p v) s.ideal (graph s) a b ha hb) hc)
+
+-- ---- lists of polynomials, one after another
+
+-- the next of a list, as it is stored
+pub stored-next : (p v : ℕ) (fs : List Poly) (k : ℕ) (f : Poly) (gs : List Poly) (g : Poly) → k < length fs → f ≡ get_or fs k f → AreStored p v (take k fs) gs → IsStoredIn p v f g → AreStored p v (take (k + 1) fs) (gs ++ g ∷ [])
+stored-next p v fs k f gs g low here so_far one =
+    subst (λ (hs : List Poly). AreStored p v hs (gs ++ g ∷ [])) (sym (take-at fs k f low here)) (AllZip-push (IsStoredIn p v) (take k fs) gs f g so_far one)
+
+-- all of them
+pub stored-whole : (p v : ℕ) (fs : List Poly) (k : ℕ) (gs : List Poly) → length fs ≤ k → AreStored p v (take k fs) gs → AreStored p v fs gs
+stored-whole p v fs k gs all h = subst (λ (hs : List Poly). AreStored p v hs gs) (take_all k fs all) h
+
+-- an element of a list, over equal numbers
+pub normal-at : (p q v w : ℕ) (fs : List Poly) (k : ℕ) (f : Poly) → p ≡ q → v ≡ w → k < length fs → f ≡ get_or fs k f → ArePolynomials q w fs → IsNormal (residue_ops p) (λ c. nat_lt c p) v f
+normal-at p q v w fs k f field vars low here h = rw (field, vars) (subst (IsNormal (residue_ops q) (λ c. nat_lt c q) w) (sym here) (h k f low))

@@ -1,5 +1,6 @@
 -- The relation of an element, made term by term.
 --   solution-nonzero     a coefficient that is not zero gives none
+--   solved-pair          a coefficient as it is made
 --   z-below              the monomials in Z are below the lead, but for the lead
 --   IsSolving            the terms of the element so far
 --   solving-start, solving-passed, solving-more    none yet; a term whose monomial in Z came before, or is the lead; a new one
@@ -17,10 +18,11 @@ use Rattle.std.proofs.lemmas.List.{map-append}
 use Rattle.std.proofs.lemmas.List.Elements.{All-nil, All-cons, All-head, All-tail, All-push}
 use Rattle.std.proofs.lemmas.List.Folds.{list_any_at}
 use Rattle.std.proofs.lemmas.List.Sorted.{All-permutation, IsPermutation-sym, IsStrictWeakOrder-flip, ranks_by, sorted_far}
+use Rattle.rinv_algebra.specs.Ring.{IsSame}
 use Rattle.rinv_algebra.specs.Residue.{residue_ops}
 use Rattle.rinv_algebra.specs.Monomial.{same_monomial, total_degree, max_degree}
 use Rattle.rinv_algebra.specs.Order.{grevlex}
-use Rattle.rinv_algebra.specs.Polynomial.{Term, poly_ops, is_zero, opposite}
+use Rattle.rinv_algebra.specs.Polynomial.{Term, poly_ops, is_zero, opposite, difference}
 use Rattle.rinv_algebra.specs.Normal.{IsNormal}
 use Rattle.rinv_algebra.specs.Fraction.{fraction_ops}
 use Rattle.rinv_algebra.proofs.Grevlex.{grevlex_laws, grevlex_ties}
@@ -40,7 +42,7 @@ use Rattle.rinv_defs.specs.RelationConditions.{z_part}
 use Rattle.rinv_defs.specs.Extended.{Relation, FractionPoly}
 use Rattle.rinv_frac.specs.Cancelling.{IsCancelled}
 use Rattle.rinv_frac.specs.Fractions.{IsStored}
-use Rattle.rinv_frac.proofs.CancelledValues.{cancelled-value}
+use Rattle.rinv_frac.proofs.CancelledValues.{cancelled-value, cancelled-same}
 use Rattle.rinv_frac.proofs.Values.{zero-value}
 use Rattle.rinv_poly.specs.Terms.{AreDistinct}
 use Rattle.rinv_poly.proofs.DistinctTerms.{distinct-permuted, distinct-at}
@@ -72,6 +74,16 @@ solution-nonzero p c d x nc nd made = go (is_zero (residue_ops p) x.0) refl
         let k = cancelled-value (residue_ops p) (residue_laws p) (residue_field_laws p) (opposite (residue_ops p) c, d) x nd made in
         let none = zero-value (residue_ops p) (residue_laws p) x k.nonzero ∙ z in
         absurd (true≢false (sym (facts.then o l (facts.back o l k.value) none) ∙ zero-value (residue_ops p) (residue_laws p) (opposite (residue_ops p) c, d) nd ∙ minus (is_zero (residue_ops p) (opposite (residue_ops p) c)) refl))
+
+-- -c/d, made as (0 - c)/d and cancelled
+pub solved-pair : (p : ℕ) (zero num den c d : Poly) (f x : Fraction) → IsSame (poly_ops (residue_ops p)) zero [] → IsSame (poly_ops (residue_ops p)) num (difference (residue_ops p) zero c) → den ≡ d → f ≡ (num, den) → IsCancelled (residue_ops p) f x → IsCancelled (residue_ops p) (opposite (residue_ops p) c, d) x
+solved-pair p zero num den c d f x none minus copied parts made =
+    let o = poly_ops (residue_ops p) in
+    let l = poly_laws (residue_ops p) (residue_laws p) in
+    cancelled-same (residue_ops p) (residue_laws p) (residue_field_laws p) (num, den) (opposite (residue_ops p) c, d) x (record {
+      numerator = facts.then o l minus (l.add_same zero [] (opposite (residue_ops p) c) (opposite (residue_ops p) c) none (l.same_refl (opposite (residue_ops p) c)));
+      denominator = subst (λ (g : Poly). IsSame (poly_ops (residue_ops p)) den g) copied (l.same_refl den);
+    }) (subst (λ (g : Fraction). IsCancelled (residue_ops p) g x) parts made)
 
 -- one more monomial, which none has
 recursive-push : {X : Type 0} (P : X → Type 0) (xs : List X) (y : X) → AllByRecursion P xs → P y → AllByRecursion P (xs ++ y ∷ [])

@@ -97,10 +97,11 @@ fn free_elements(
     'elements: for k in 0..polys.len() {
         let h = &polys[k];
         let (lead, _) = leading_term(ring, h, order);
-        if is_free(system, lead) {
-            let copy = ring.copy(alloc, h)?;
-            free.push(copy)?;
+        if !is_free(system, lead) {
+            continue;
         }
+        let copy = ring.copy(alloc, h)?;
+        free.push(copy)?;
     }
     Ok(free)
 }

@@ -110,7 +110,8 @@ fn kept_in_z(
         };
         monomials.push(monomial)?;
     }
-    kept_places(space_ring, alloc, &monomials, &Grevlex)
+    let places = kept_places(space_ring, alloc, &monomials, &Grevlex)?;
+    Ok(places)
 }
 
 // The element divided by the coefficient of its leading monomial in Z, and solved for this monomial.
@@ -133,10 +134,13 @@ fn relation_of(
 {
     let divisor = z_coefficient(alloc, system, field.base(), h, lead)?;
     let mut tail = Vec::new(alloc);
-    'terms: for (mono, _) in h.terms() {
+    'each: for (mono, _) in h.terms() {
         let z = z_part(alloc, system, mono)?;
-        if is_same(&z, lead) || has_monomial(&tail, &z) {
+        if is_same(&z, lead) {
             continue;
+        }
+        if has_monomial(&tail, &z) {
+            continue; // made before
         }
         let coefficient = z_coefficient(alloc, system, field.base(), h, &z)?;
         let solved = solved(alloc, field, &coefficient, &divisor)?;
@@ -179,5 +183,6 @@ fn solved(alloc: Global, field: &FracRing, c: &KPoly, d: &KPoly) -> Result<Frac,
     let Some(fraction) = field.fraction(num, den)? else {
         unreachable!()
     };
-    field.cancel(alloc, fraction)
+    let solved = field.cancel(alloc, fraction)?;
+    Ok(solved)
 }
