@@ -19,9 +19,9 @@ ghost use Rattle.rinv_reduction.specs.Localised.{all_count, lead_in_z, z_coeffic
 ghost use Rattle.rinv_elim.specs.Localising.{AreLocalised, IsMissed, IsSolved};
 ghost use Rattle.rinv_elim.specs.Stopped.{StopsAt};
 
-use crate::blocks::{action_order, action_ring};
 use crate::coefficients::{is_same, z_coefficient, z_part};
 use crate::stop::ElimStop;
+use rinv_action::{action_order, action_ring};
 use rinv_buch::{kept_places, leading_term};
 use rinv_frac::{Frac, FracRing};
 use rinv_mono::{Grevlex, Mono, MonoOrder};

@@ -17,7 +17,7 @@ use Rattle.rinv_sub.proofs.Images.{AllZip-append}
 use Rattle.rinv_defs.specs.System.{System, Poly, group_count, space_count, group_copy, variables, moved, differences, at_point}
 use Rattle.rinv_defs.specs.Extended.{graph, action_ideal}
 use Rattle.rinv_parts.specs.Points.{ArePolynomials, AreStored, IsStoredIn}
-use Rattle.rinv_tails.proofs.Tails.{take-at}
+use Rattle.rinv_sub.proofs.Sums.{take-at}
 use Rattle.rinv_parts.proofs.Names.{range-places}
 use Rattle.rinv_reduction.specs.Localised.{all_count}
 

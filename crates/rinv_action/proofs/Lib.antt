@@ -1,0 +1,3 @@
+pub mod BlockSizes
+pub mod Inputs
+pub mod ActionFacts
