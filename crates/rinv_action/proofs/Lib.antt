@@ -1,3 +1,3 @@
 pub mod BlockSizes
-pub mod Inputs
+pub mod Generators
 pub mod ActionFacts

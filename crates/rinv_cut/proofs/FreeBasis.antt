@@ -2,7 +2,7 @@
 --   filter-has, list-has    elements of a filtered list
 --   free_first, free_nonzero    the elements are sums of terms in v variables, and not zero
 --   free-basis           the fact
-use Rattle.std.proofs.Common.{◌≡◌, ℕ, zero, suc, ◌+◌, ◌≤◌, ◌<◌, Bool, true, false, not, max, cond, List, [], ◌∷◌, ◌++◌, append-nil, length, take, sum, get_or, filter, refl, sym, ◌∙◌, ap, subst, arith, IsTrue, true≢false}
+use Rattle.std.proofs.Common.{◌≡◌, ℕ, zero, suc, ◌+◌, ◌≤◌, ◌<◌, Bool, true, false, not, max, cond, List, [], ◌∷◌, ◌++◌, append-nil, length, take, sum, get_or, filter, refl, sym, ◌∙◌, ap, subst, inl, inr, arith, IsTrue, true≢false}
 use Rattle.std.specs.Prelude.{IsFalse, ◌==◌}
 use Rattle.std.specs.Ordering.{is_ge, ordering_reverse}
 use Rattle.std.specs.declared.cmp.Ordering.{Ordering}

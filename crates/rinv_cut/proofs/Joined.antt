@@ -47,21 +47,25 @@ differ i j e q = grind (arith, nat_tests, e, q)
 
 has-append : {X : Type 0} (xs ys : List X) {z : X} → Has z (xs ++ ys) → Has z xs ⊎ Has z ys
 has-append [] ys h = inr h
-has-append (x ∷ xs) ys {z} h = go (split h)
+has-append {X} (x ∷ xs) ys {z} h = go (split h) (λ k. has-append xs ys k)
   where
     later : Has z xs ⊎ Has z ys → Has z (x ∷ xs) ⊎ Has z ys
     later (inl k) = inl (Has.later k)
     later (inr k) = inr k
 
-    go : (z ≡ x) ⊎ Has z (xs ++ ys) → Has z (x ∷ xs) ⊎ Has z ys
-    go (inl e) = inl (subst (λ (w : X). Has w (x ∷ xs)) (sym e) Has.first)
-    go (inr k) = later (has-append xs ys k)
+    go : (z ≡ x) ⊎ Has z (xs ++ ys) → (Has z (xs ++ ys) → Has z xs ⊎ Has z ys) → Has z (x ∷ xs) ⊎ Has z ys
+    go (inl e) again = inl (subst (λ (w : X). Has w (x ∷ xs)) (sym e) Has.first)
+    go (inr k) again = later (again k)
 
-append-left : {X : Type 0} (xs ys : List X) {z : X} → Has z xs → Has z (xs ++ ys)
-append-left xs ys Has.first = Has.first
-append-left xs ys (Has.later h) = Has.later (append-left _ ys h)
+append-left : {X : Type 0} {z : X} (xs ys : List X) → Has z xs → Has z (xs ++ ys)
+append-left [] ys h = elim h [ ]
+append-left {X} {z} (x ∷ xs) ys h = go (split h) (λ k. append-left xs ys k)
+  where
+    go : (z ≡ x) ⊎ Has z xs → (Has z xs → Has z (xs ++ ys)) → Has z (x ∷ (xs ++ ys))
+    go (inl e) again = subst (λ (w : X). Has w (x ∷ (xs ++ ys))) (sym e) Has.first
+    go (inr k) again = Has.later (again k)
 
-append-right : {X : Type 0} (xs ys : List X) {z : X} → Has z ys → Has z (xs ++ ys)
+append-right : {X : Type 0} {z : X} (xs ys : List X) → Has z ys → Has z (xs ++ ys)
 append-right [] ys h = h
 append-right (x ∷ xs) ys h = Has.later (append-right xs ys h)
 
@@ -82,6 +86,7 @@ pairs-joined {X} R (x ∷ xs) ys p q h = AllPairs-cons R x (xs ++ ys) (all-from_
 
 module _ {E : Type 0} (v : ℕ) where
   in-has : (xs : List (Polynomial E)) → AreInVariables v xs → {h : Polynomial E} → Has h xs → IsTrue (is_in_variables v h)
+  in-has [] all m = elim m [ ]
   in-has (x ∷ xs) all Has.first = (both (is_in_variables v x) (list_all (is_in_variables v) xs) all).0
   in-has (x ∷ xs) all (Has.later m) = in-has xs (both (is_in_variables v x) (list_all (is_in_variables v) xs) all).1 m
 

@@ -45,45 +45,42 @@ module _ {E : Type 0} (o : RingOps E) (l : RingLaws o) (v : ℕ) where
   pub trimmed-in : (f : Polynomial E) → IsTrue (is_in_variables v (trimmed f))
   unfolding trimmed with_term
   trimmed-in [] = refl
-  trimmed-in (t ∷ f) = go (is_front t.0)
+  trimmed-in (t ∷ f) = go (is_front t.0) (trimmed-in f)
     where
-      go : (b : Bool) → IsTrue (is_in_variables v (with_term b t (trimmed f)))
-      go true = and_true (nat_le (length (take v t.0)) v) (is_in_variables v (trimmed f)) (short t.0) (trimmed-in f)
-      go false = trimmed-in f
+      go : (b : Bool) → IsTrue (is_in_variables v (trimmed f)) → IsTrue (is_in_variables v (with_term b t (trimmed f)))
+      go true rest = and_true (nat_le (length (take v t.0)) v) (is_in_variables v (trimmed f)) (short t.0) rest
+      go false rest = rest
 
   -- at a monomial in these variables
   at_front : (f : Polynomial E) (e : List ℕ) → is_front e ≡ true → coefficient o (trimmed f) e ≡ coefficient o f e
   unfolding trimmed with_term is_front coefficient
   at_front [] e q = refl
-  at_front (t ∷ f) e q = go (is_front t.0) refl
+  at_front (t ∷ f) e q = go (is_front t.0) refl (at_front f e q)
     where
-      rest : coefficient o (trimmed f) e ≡ coefficient o f e
-      rest = at_front f e q
-
       taken : E → Bool → E
       taken x b = cond b (o.add t.1 x) x
 
-      apart : is_front t.0 ≡ false → (b : Bool) → same_monomial t.0 e ≡ b → coefficient o (trimmed f) e ≡ taken (coefficient o f e) b
-      apart off true s = absurd (true≢false (sym (front-one e t.0 (same_monomial_sym t.0 e s) q) ∙ off))
-      apart off false s = rest
+      apart : is_front t.0 ≡ false → (b : Bool) → same_monomial t.0 e ≡ b → coefficient o (trimmed f) e ≡ coefficient o f e → coefficient o (trimmed f) e ≡ taken (coefficient o f e) b
+      apart off true s rest = absurd (true≢false (sym (front-one e t.0 (same_monomial_sym t.0 e s) q) ∙ off))
+      apart off false s rest = rest
 
-      go : (b : Bool) → is_front t.0 ≡ b → coefficient o (with_term b t (trimmed f)) e ≡ taken (coefficient o f e) (same_monomial t.0 e)
-      go true on = ap (λ (x : E). taken x (same_monomial (take v t.0) e)) rest ∙ ap (taken (coefficient o f e)) (sym (same_monomial-left t.0 (take v t.0) e on))
-      go false off = apart off (same_monomial t.0 e) refl
+      go : (b : Bool) → is_front t.0 ≡ b → coefficient o (trimmed f) e ≡ coefficient o f e → coefficient o (with_term b t (trimmed f)) e ≡ taken (coefficient o f e) (same_monomial t.0 e)
+      go true on rest = ap (λ (x : E). taken x (same_monomial (take v t.0) e)) rest ∙ ap (taken (coefficient o f e)) (sym (same_monomial-left t.0 (take v t.0) e on))
+      go false off rest = apart off (same_monomial t.0 e) refl rest
 
   -- and at another
   absent_off : (f : Polynomial E) (e : List ℕ) → is_front e ≡ false → IsAbsent e (trimmed f)
   unfolding trimmed with_term is_front
   absent_off [] e off = tt
-  absent_off (t ∷ f) e off = go (is_front t.0) refl
+  absent_off (t ∷ f) e off = go (is_front t.0) refl (absent_off f e off)
     where
       differ : is_front t.0 ≡ true → (b : Bool) → same_monomial (take v t.0) e ≡ b → b ≡ false
       differ on false s = refl
       differ on true s = absurd (true≢false (sym (front-one t.0 e (same_monomial-left t.0 (take v t.0) e on ∙ s) on) ∙ off))
 
-      go : (b : Bool) → is_front t.0 ≡ b → IsAbsent e (with_term b t (trimmed f))
-      go true on = (differ on (same_monomial (take v t.0) e) refl, absent_off f e off)
-      go false on = absent_off f e off
+      go : (b : Bool) → is_front t.0 ≡ b → IsAbsent e (trimmed f) → IsAbsent e (with_term b t (trimmed f))
+      go true on rest = (differ on (same_monomial (take v t.0) e) refl, rest)
+      go false on rest = rest
 
   module _ (f : Polynomial E) (first : InFirst o l v f) where
     vanishes : (e : List ℕ) → is_front e ≡ false → IsSame o (coefficient o f e) o.zero

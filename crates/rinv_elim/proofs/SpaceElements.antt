@@ -116,7 +116,7 @@ module _ (s : System) where
   -- the coefficient of Z^0 is the whole, where no term has Z
   pub coefficient-whole : (h : Poly) (z : List ℕ) → All (λ t. length t.0 ≡ all_count s) h → All (λ t. IsTrue (is_free (group_count s + space_count s) t.0)) h → length z ≡ space_count s → total_degree z ≡ 0 → past (group_count s + space_count s) (z_coefficient s h z) ≡ h
   coefficient-whole [] z long free few none = refl
-  coefficient-whole (t ∷ h) z long free few none = go (same_monomial (z_part s t.0) z) same
+  coefficient-whole (t ∷ h) z long free few none = go (same_monomial (z_part s t.0) z) same (coefficient-whole h z (All-tail (λ (t : Term ℕ). length t.0 ≡ all_count s) t h long) (All-tail (λ (t : Term ℕ). IsTrue (is_free (l + n) t.0)) t h free) few none)
     where
       many : length t.0 ≡ all_count s
       many = All-head (λ (t : Term ℕ). length t.0 ≡ all_count s) t h long
@@ -136,23 +136,23 @@ module _ (s : System) where
       same : same_monomial (z_part s t.0) z ≡ true
       same = subst (λ (m : List ℕ). same_monomial m z ≡ true) (sym (zeros (z_part s t.0) part-zero ∙ ap (λ (j : ℕ). replicate j 0) (part-many ∙ sym few) ∙ sym (zeros z none))) (same_monomial_refl z)
 
-      go : (b : Bool) → b ≡ true → past (l + n) (map (λ (u : Term ℕ). (drop (l + n) u.0, u.1)) (cond b (t ∷ filter (λ (u : Term ℕ). same_monomial (z_part s u.0) z) h) (filter (λ (u : Term ℕ). same_monomial (z_part s u.0) z) h))) ≡ t ∷ h
-      go false e = absurd (true≢false (sym e))
-      go true e = ap₂ (λ (m : List ℕ) (r : Poly). (m, t.1) ∷ r) (ap (λ (f : List ℕ). f ++ drop (l + n) t.0) (sym front) ∙ take-append-drop (l + n) t.0)
-          (coefficient-whole h z (All-tail (λ (t : Term ℕ). length t.0 ≡ all_count s) t h long) (All-tail (λ (t : Term ℕ). IsTrue (is_free (l + n) t.0)) t h free) few none)
+      go : (b : Bool) → b ≡ true → past (l + n) (z_coefficient s h z) ≡ h → past (l + n) (map (λ (u : Term ℕ). (drop (l + n) u.0, u.1)) (cond b (t ∷ filter (λ (u : Term ℕ). same_monomial (z_part s u.0) z) h) (filter (λ (u : Term ℕ). same_monomial (z_part s u.0) z) h))) ≡ t ∷ h
+      go false e rest = absurd (true≢false (sym e))
+      go true e rest = ap₂ (λ (m : List ℕ) (r : Poly). (m, t.1) ∷ r) (ap (λ (f : List ℕ). f ++ drop (l + n) t.0) (sym front) ∙ take-append-drop (l + n) t.0) rest
 
   -- where a term has the monomial, there is a coefficient
   some-coefficient : (h : Poly) (z : List ℕ) (k : ℕ) (d : Term ℕ) → k < length h → IsTrue (same_monomial (z_part s (get_or h k d).0) z) → z_coefficient s h z ≡ [] → ⊥
   some-coefficient [] z k d low e none = absurd (omega (arith, low))
-  some-coefficient (t ∷ h) z k d low e none = go (same_monomial (z_part s t.0) z) refl none
+  some-coefficient (t ∷ h) z k d low e none = go (same_monomial (z_part s t.0) z) refl none (λ j inside same nothing. some-coefficient h z j d inside same nothing)
     where
-      later : (k : ℕ) → k < suc (length h) → IsTrue (same_monomial (z_part s (get_or (t ∷ h) k d).0) z) → same_monomial (z_part s t.0) z ≡ false → z_coefficient s h z ≡ [] → ⊥
-      later zero low e off none = true≢false (sym e ∙ off)
-      later (suc k) low e off none = some-coefficient h z k d (omega (arith, low)) e none
+      later : (k : ℕ) → k < suc (length h) → IsTrue (same_monomial (z_part s (get_or (t ∷ h) k d).0) z) → same_monomial (z_part s t.0) z ≡ false → z_coefficient s h z ≡ [] → ((j : ℕ) → j < length h → IsTrue (same_monomial (z_part s (get_or h j d).0) z) → z_coefficient s h z ≡ [] → ⊥) → ⊥
+      later zero low e off none again = true≢false (sym e ∙ off)
+      later (suc k) low e off none again = again k (omega (arith, low)) e none
 
-      go : (b : Bool) → same_monomial (z_part s t.0) z ≡ b → map (λ (u : Term ℕ). (drop (l + n) u.0, u.1)) (cond b (t ∷ filter (λ (u : Term ℕ). same_monomial (z_part s u.0) z) h) (filter (λ (u : Term ℕ). same_monomial (z_part s u.0) z) h)) ≡ [] → ⊥
-      go true on none = cc
-      go false off none = later k low e off none
+      go : (b : Bool) → same_monomial (z_part s t.0) z ≡ b → map (λ (u : Term ℕ). (drop (l + n) u.0, u.1)) (cond b (t ∷ filter (λ (u : Term ℕ). same_monomial (z_part s u.0) z) h) (filter (λ (u : Term ℕ). same_monomial (z_part s u.0) z) h)) ≡ []
+          → ((j : ℕ) → j < length h → IsTrue (same_monomial (z_part s (get_or h j d).0) z) → z_coefficient s h z ≡ [] → ⊥) → ⊥
+      go true on none again = cc
+      go false off none again = later k low e off none again
 
   pub coefficient-nonzero : (h : Poly) (z : List ℕ) (k : ℕ) (d : Term ℕ) → IsNormal (residue_ops s.p) (λ c. nat_lt c s.p) (all_count s) h → All (λ t. IsTrue (is_free (group_count s) t.0)) h → length z ≡ space_count s → k < length h
       → IsTrue (same_monomial (z_part s (get_or h k d).0) z) → is_zero (residue_ops s.p) (z_coefficient s h z) ≡ false

@@ -89,14 +89,14 @@ module _ (s : System) where
 
   coefficient-append : (f g : Poly) (z : List ℕ) → z_coefficient s (f ++ g) z ≡ z_coefficient s f z ++ z_coefficient s g z
   coefficient-append [] g z = refl
-  coefficient-append (t ∷ f) g z = go (same_monomial (z_part s t.0) z)
+  coefficient-append (t ∷ f) g z = go (same_monomial (z_part s t.0) z) (coefficient-append f g z)
     where
       at : Bool → Poly → Poly
       at b h = map (λ (u : Term ℕ). (drop behind u.0, u.1)) (cond b (t ∷ filter (λ (u : Term ℕ). same_monomial (z_part s u.0) z) h) (filter (λ (u : Term ℕ). same_monomial (z_part s u.0) z) h))
 
-      go : (b : Bool) → at b (f ++ g) ≡ at b f ++ z_coefficient s g z
-      go true = ap (λ (h : Poly). (drop behind t.0, t.1) ∷ h) (coefficient-append f g z)
-      go false = coefficient-append f g z
+      go : (b : Bool) → z_coefficient s (f ++ g) z ≡ z_coefficient s f z ++ z_coefficient s g z → at b (f ++ g) ≡ at b f ++ z_coefficient s g z
+      go true rest = ap (λ (h : Poly). (drop behind t.0, t.1) ∷ h) rest
+      go false rest = rest
 
   -- one term more
   pub coefficient-more : (h : Poly) (z : List ℕ) (k : ℕ) (t : Term ℕ) → k < length h → t ≡ get_or h k t → z_coefficient s (take (k + 1) h) z ≡ z_coefficient s (take k h) z ++ given z t
@@ -142,26 +142,22 @@ module _ (s : System) where
 
     under : (t : Term ℕ) → Whole t → free t → IsTrue (same_monomial (z_part s t.0) z) → (h : Poly) → Below t.0 h → All Whole h → All free h → Below (drop behind t.0) (z_coefficient s h z)
     under t w f e [] below terms frees = All-nil (λ u. lex u.0 (drop behind t.0) ≡ Less)
-    under t w f e (u ∷ h) below terms frees = go (same_monomial (z_part s u.0) z) refl
+    under t w f e (u ∷ h) below terms frees = go (same_monomial (z_part s u.0) z) refl (under t w f e h (All-tail (λ (u : Term ℕ). lex u.0 t.0 ≡ Less) u h below) (All-tail Whole u h terms) (All-tail free u h frees))
       where
-        rest : Below (drop behind t.0) (z_coefficient s h z)
-        rest = under t w f e h (All-tail (λ (u : Term ℕ). lex u.0 t.0 ≡ Less) u h below) (All-tail Whole u h terms) (All-tail free u h frees)
-
-        go : (b : Bool) → same_monomial (z_part s u.0) z ≡ b → Below (drop behind t.0) (map (λ (u : Term ℕ). (drop behind u.0, u.1)) (cond b (u ∷ filter (λ (u : Term ℕ). same_monomial (z_part s u.0) z) h) (filter (λ (u : Term ℕ). same_monomial (z_part s u.0) z) h)))
-        go false off = rest
-        go true on = All-cons (λ (u : Term ℕ). lex u.0 (drop behind t.0) ≡ Less) (drop behind u.0, u.1) (z_coefficient s h z)
+        go : (b : Bool) → same_monomial (z_part s u.0) z ≡ b → Below (drop behind t.0) (z_coefficient s h z)
+            → Below (drop behind t.0) (map (λ (u : Term ℕ). (drop behind u.0, u.1)) (cond b (u ∷ filter (λ (u : Term ℕ). same_monomial (z_part s u.0) z) h) (filter (λ (u : Term ℕ). same_monomial (z_part s u.0) z) h)))
+        go false off rest = rest
+        go true on rest = All-cons (λ (u : Term ℕ). lex u.0 (drop behind t.0) ≡ Less) (drop behind u.0, u.1) (z_coefficient s h z)
             (sym (lex-spaces u.0 t.0 z (All-head Whole u h terms).vars w.vars few (All-head free u h frees) f on e) ∙ All-head (λ (u : Term ℕ). lex u.0 t.0 ≡ Less) u h below) rest
 
     pub coefficient-ordered : (h : Poly) → IsOrdered (residue_ops s.p) (λ c. nat_lt c s.p) (all_count s) h → All (λ t. IsTrue (is_free (group_count s) t.0)) h → IsOrdered (residue_ops s.p) (λ c. nat_lt c s.p) (space_count s) (z_coefficient s h z)
     coefficient-ordered [] o frees = ordered-nil (residue_ops s.p) (λ c. nat_lt c s.p) (space_count s)
-    coefficient-ordered (t ∷ h) o frees = go (same_monomial (z_part s t.0) z) refl
+    coefficient-ordered (t ∷ h) o frees = go (same_monomial (z_part s t.0) z) refl (coefficient-ordered h (record { terms = All-tail Whole t h o.terms; descending = descending-tail t h o.descending }) (All-tail free t h frees))
       where
-        rest : IsOrdered (residue_ops s.p) (λ c. nat_lt c s.p) (space_count s) (z_coefficient s h z)
-        rest = coefficient-ordered h (record { terms = All-tail Whole t h o.terms; descending = descending-tail t h o.descending }) (All-tail free t h frees)
-
-        go : (b : Bool) → same_monomial (z_part s t.0) z ≡ b → IsOrdered (residue_ops s.p) (λ c. nat_lt c s.p) (space_count s) (map (λ (u : Term ℕ). (drop behind u.0, u.1)) (cond b (t ∷ filter (λ (u : Term ℕ). same_monomial (z_part s u.0) z) h) (filter (λ (u : Term ℕ). same_monomial (z_part s u.0) z) h)))
-        go false off = rest
-        go true on = record {
+        go : (b : Bool) → same_monomial (z_part s t.0) z ≡ b → IsOrdered (residue_ops s.p) (λ c. nat_lt c s.p) (space_count s) (z_coefficient s h z)
+            → IsOrdered (residue_ops s.p) (λ c. nat_lt c s.p) (space_count s) (map (λ (u : Term ℕ). (drop behind u.0, u.1)) (cond b (t ∷ filter (λ (u : Term ℕ). same_monomial (z_part s u.0) z) h) (filter (λ (u : Term ℕ). same_monomial (z_part s u.0) z) h)))
+        go false off rest = rest
+        go true on rest = record {
           terms = All-cons Part (drop behind t.0, t.1) (z_coefficient s h z) (part_of t (All-head Whole t h o.terms)) rest.terms;
           descending = AllPairs-cons (λ s u. lex u.0 s.0 ≡ Less) (drop behind t.0, t.1) (z_coefficient s h z)
               (under t (All-head Whole t h o.terms) (All-head free t h frees) on h (descending-head t h o.descending) (All-tail Whole t h o.terms) (All-tail free t h frees)) rest.descending;
