@@ -287,7 +287,7 @@ module _ {E : Type 0} (o : RingOps E) (l : RingLaws o) (field : FieldLaws o) (cm
         go true e =
             let (p, inside, d) = reducible-has ps (lead b) (elimination.divided b (in-has v bs bs_in b_has) (free_lead o l cmp v order k eliminates b (bs_nonzero b b_has) e) (bs_member b b_has) (bs_nonzero b b_has)) in
             let (q, there, c) = free_divided p inside in
-            has-reducible both_parts (lead f) (get_or gs q []) (append-left gs ns (has_at [] gs q there)) (lead-trans (get_or gs q []) b (lead f) (lead-trans (get_or gs q []) (get_or ps p []) (lead b) c d) by.2)
+            has-reducible both_parts (lead f) (get_or gs q []) (append-left {z = get_or gs q []} gs ns (has_at [] gs q there)) (lead-trans (get_or gs q []) b (lead f) (lead-trans (get_or gs q []) (get_or ps p []) (lead b) c d) by.2)
 
     whole_basis : IsGroebnerBasis o cmp v fs both_parts
     whole_basis = record {
