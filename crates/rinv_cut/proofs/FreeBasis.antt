@@ -2,7 +2,7 @@
 --   filter-has, list-has    elements of a filtered list
 --   free_first, free_nonzero    the elements are sums of terms in v variables, and not zero
 --   free-basis           the fact
-use Rattle.std.proofs.Common.{◌≡◌, ℕ, zero, suc, ◌+◌, ◌≤◌, ◌<◌, Bool, true, false, not, max, cond, List, [], ◌∷◌, ◌++◌, append-nil, length, take, sum, get_or, filter, refl, sym, ◌∙◌, ap, subst, inl, inr, arith, IsTrue, true≢false}
+use Rattle.std.proofs.Common.{◌≡◌, ℕ, zero, suc, ◌+◌, ◌≤◌, ◌<◌, Bool, true, false, max, cond, List, [], ◌∷◌, append-nil, length, take, sum, get_or, filter, refl, sym, ◌∙◌, ap, subst, inl, inr, arith, IsTrue, true≢false}
 use Rattle.std.specs.Prelude.{IsFalse, ◌==◌}
 use Rattle.std.specs.Ordering.{is_ge, ordering_reverse}
 use Rattle.std.specs.declared.cmp.Ordering.{Ordering}
@@ -11,19 +11,18 @@ use Rattle.std.proofs.lemmas.Bool.{eqb-true}
 use Rattle.std.proofs.lemmas.List.Sums.{sum_by-cons}
 use Rattle.rinv_algebra.specs.Ring.{RingOps, RingLaws, FieldLaws, IsSame}
 use Rattle.rinv_algebra.specs.Monomial.{lcm, coprime}
-use Rattle.rinv_algebra.specs.Polynomial.{Polynomial, poly_ops, coefficient, has_monomial, is_zero}
+use Rattle.rinv_algebra.specs.Polynomial.{Polynomial, poly_ops, has_monomial, is_zero}
 use Rattle.rinv_algebra.specs.Normal.{is_in_variables}
 use Rattle.rinv_algebra.specs.Ideal.{IsMember}
 use Rattle.rinv_algebra.specs.Leading.{leading_monomial, s_polynomial}
 use Rattle.rinv_algebra.proofs.PolynomialLaws.{poly_laws}
-use Rattle.rinv_algebra.proofs.Same.{same-coefficients}
-use Rattle.rinv_theory.proofs.Classes.{class, class_sound, class-zero}
+use Rattle.rinv_theory.proofs.Classes.{class_sound, class-zero}
 use Rattle.rinv_theory.proofs.Monoid.{monomial}
 use Rattle.rinv_theory.proofs.Polynomials.{polynomials}
-use Rattle.rinv_theory.proofs.Of.{Of, of-weaken}
+use Rattle.rinv_theory.proofs.Of.{of-weaken}
 use Rattle.rinv_groebner.specs.Orders.{OrdersMonomials}
-use Rattle.rinv_groebner.specs.Division.{Step, IsDivision, is_reducible}
-use Rattle.rinv_groebner.specs.Basis.{AreMembers, AreNonzero, IsGroebnerBasis}
+use Rattle.rinv_groebner.specs.Division.{Step, IsDivision}
+use Rattle.rinv_groebner.specs.Basis.{AreNonzero, IsGroebnerBasis}
 use Rattle.rinv_groebner.specs.Settled.{AreCoprime}
 use Rattle.rinv_groebner.specs.Journal.{kept_steps}
 use Rattle.rinv_groebner.specs.Elimination.{is_free, Eliminates, IsFreeOf, free_part, IsEliminationBasis}
@@ -36,7 +35,7 @@ use Rattle.rinv_groebner.proofs.DivisionLaws.{left-bounded}
 use Rattle.rinv_groebner.proofs.EliminationLists.{part_basis}
 use Rattle.rinv_groebner.proofs.Generates.{steps-first}
 use Rattle.rinv_groebner.proofs.GoodPairs.{is_below, below-from}
-use Rattle.rinv_groebner.proofs.IdealBases.{all_from, all_has, list_basis, nonzero_has}
+use Rattle.rinv_groebner.proofs.IdealBases.{all_has, list_basis, nonzero_has}
 use Rattle.rinv_groebner.proofs.JournalGood.{zero-good}
 use Rattle.rinv_groebner.proofs.LeadingMonomials.{leading_monomial-leads}
 use Rattle.rinv_groebner.proofs.ListBases.{good-list_basis}

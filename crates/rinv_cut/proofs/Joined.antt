@@ -1,7 +1,7 @@
 -- A reduced basis of the free elements, and the elements of a reduced basis of the whole ideal that are not free, are together one of the
 -- whole ideal.
 --   joined-basis         the fact
-use Rattle.std.proofs.Common.{◌≡◌, ◌⊎◌, ℕ, zero, suc, ◌<◌, Bool, true, false, not, cond, ◌==◌, List, [], ◌∷◌, ◌++◌, length, get_or, filter, refl, sym, ◌∙◌, ap, ap₂, subst, inl, inr, arith, IsTrue, true≢false, All, AllPairs}
+use Rattle.std.proofs.Common.{◌≡◌, ◌⊎◌, ℕ, ◌<◌, Bool, true, false, not, ◌==◌, List, [], ◌∷◌, ◌++◌, length, get_or, filter, refl, sym, ◌∙◌, ap, subst, inl, inr, arith, IsTrue, true≢false, AllPairs}
 use Rattle.std.specs.Prelude.{IsFalse}
 use Rattle.std.specs.List.{list_all}
 use Rattle.std.specs.Ordering.{is_ge, ordering_reverse}
@@ -23,10 +23,10 @@ use Rattle.rinv_theory.proofs.Variables.{IsFront, in_variables-of}
 use Rattle.rinv_groebner.specs.Orders.{OrdersMonomials, AreInVariables}
 use Rattle.rinv_groebner.specs.Division.{lead_divides, is_reducible}
 use Rattle.rinv_groebner.specs.Basis.{AreMembers, AreNonzero, IsGroebnerBasis}
-use Rattle.rinv_groebner.specs.Elimination.{is_free, Eliminates, IsFreeOf, free_part, IsEliminationBasis}
+use Rattle.rinv_groebner.specs.Elimination.{is_free, Eliminates, free_part, IsEliminationBasis}
 use Rattle.rinv_groebner.specs.Reduced.{IsReducedGroebnerBasis, AreApart, AreMonic, Ascend}
 use Rattle.rinv_groebner.proofs.Ascending.{Has, split, has_at, place_of}
-use Rattle.rinv_groebner.proofs.Compared.{all_monomials, InFirst, has_front, below_less}
+use Rattle.rinv_groebner.proofs.Compared.{all_monomials, has_front, below_less}
 use Rattle.rinv_groebner.proofs.EliminationLists.{divides-free, free_lead}
 use Rattle.rinv_groebner.proofs.Generates.{generates, own_members}
 use Rattle.rinv_groebner.proofs.Greatest.{has-filter, filter-passes}

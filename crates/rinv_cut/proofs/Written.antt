@@ -1,12 +1,12 @@
 -- A reduced Gröbner basis, written in v variables, from a Gröbner basis without zero.
 --   written-basis        there is one
-use Rattle.std.proofs.Common.{◌≡◌, ℕ, ◌<◌, List, [], ◌∷◌, length, map, get_or, refl, sym, ◌∙◌, ap, subst, arith, IsTrue}
+use Rattle.std.proofs.Common.{◌≡◌, ℕ, ◌<◌, List, [], ◌∷◌, length, map, get_or, refl, sym, ◌∙◌, subst, IsTrue}
 use Rattle.std.specs.Prelude.{remove}
 use Rattle.std.specs.List.{list_all}
 use Rattle.std.specs.declared.cmp.Ordering.{Ordering}
 use Rattle.std.proofs.lemmas.List.{length-map, get_or-map}
 use Rattle.rinv_algebra.specs.Ring.{RingOps, RingLaws, FieldLaws}
-use Rattle.rinv_algebra.specs.Polynomial.{Polynomial, poly_ops, scale}
+use Rattle.rinv_algebra.specs.Polynomial.{Polynomial, scale}
 use Rattle.rinv_algebra.specs.Normal.{is_in_variables}
 use Rattle.rinv_algebra.proofs.PolynomialLaws.{poly_laws}
 use Rattle.rinv_algebra.proofs.Same.{and_true}

@@ -26,7 +26,7 @@ reduced_tail-requires-clause-tail c =
     let gives = c.into_iter-relation-iterator.ensures.into_iter_gives in
     let k = length c.relations.yielded in
     let r = c.in-Some.relation in
-    let turn : (k < length given.items) × (r ≡ get_or given.items k r) = YieldsList-turn (YieldsList-from_vec given.items gives.0 (gives.1 ∙ given.ok.0)) c.relations.yielded _ c.relations.yielded_by _ _ r c.in-Some.is c.next.ensures.steps in
+    let turn : (k < length given.items) × (r ≡ get_or given.items k r) = YieldsList-turn (YieldsList-from_vec given.items gives.0 (gives.1 ∙ given.ok.0)) c.relations.yielded c.relations.relation-iterator c.relations.yielded_by c.next.result c.next.new.self r c.in-Some.is c.next.ensures.steps in
     let low : k < length rs = subst (λ (xs : List Relation). k < length xs) c.relations-2.view_is turn.0 in
     let here : r ≡ get_or rs k none = turn.1 ∙ ap (λ (xs : List Relation). get_or xs k r) c.relations-2.view_is ∙ get_or_default rs k r none low in
     let good = subst (IsStoredRelation field.coeffs field.vars) (sym here) (c.requires k none low) in
@@ -40,7 +40,7 @@ relations-preserved c =
     let gives = c.into_iter-relation-iterator.ensures.into_iter_gives in
     let k = length c.relations.yielded in
     let r = c.in-Some.relation in
-    let turn : (k < length given.items) × (r ≡ get_or given.items k r) = YieldsList-turn (YieldsList-from_vec given.items gives.0 (gives.1 ∙ given.ok.0)) c.relations.yielded _ c.relations.yielded_by _ _ r c.in-Some.is c.next.ensures.steps in
+    let turn : (k < length given.items) × (r ≡ get_or given.items k r) = YieldsList-turn (YieldsList-from_vec given.items gives.0 (gives.1 ∙ given.ok.0)) c.relations.yielded c.relations.relation-iterator c.relations.yielded_by c.next.result c.next.new.self r c.in-Some.is c.next.ensures.steps in
     let low : k < length rs = subst (λ (xs : List Relation). k < length xs) c.relations-2.view_is turn.0 in
     let here : r ≡ get_or rs k none = turn.1 ∙ ap (λ (xs : List Relation). get_or xs k r) c.relations-2.view_is ∙ get_or_default rs k r none low in
     let good = subst (IsStoredRelation field.coeffs field.vars) (sym here) (c.requires k none low) in
@@ -56,7 +56,7 @@ returns-in_err-tail-clause-degree c =
     let gives = c.into_iter-relation-iterator.ensures.into_iter_gives in
     let k = length c.relations.yielded in
     let r = c.in-Some.relation in
-    let turn : (k < length given.items) × (r ≡ get_or given.items k r) = YieldsList-turn (YieldsList-from_vec given.items gives.0 (gives.1 ∙ given.ok.0)) c.relations.yielded _ c.relations.yielded_by _ _ r c.in-Some.is c.next.ensures.steps in
+    let turn : (k < length given.items) × (r ≡ get_or given.items k r) = YieldsList-turn (YieldsList-from_vec given.items gives.0 (gives.1 ∙ given.ok.0)) c.relations.yielded c.relations.relation-iterator c.relations.yielded_by c.next.result c.next.new.self r c.in-Some.is c.next.ensures.steps in
     let low : k < length rs = subst (λ (xs : List Relation). k < length xs) c.relations-2.view_is turn.0 in
     let here : r ≡ get_or rs k none = turn.1 ∙ ap (λ (xs : List Relation). get_or xs k r) c.relations-2.view_is ∙ get_or_default rs k r none low in
     let good = subst (IsStoredRelation field.coeffs field.vars) (sym here) (c.requires k none low) in
@@ -69,7 +69,7 @@ pub returns-clause-number : goal.returns-clause-number
 returns-clause-number c =
     let given = c.relations-2.inside.relations in
     let gives = c.into_iter-relation-iterator.ensures.into_iter_gives in
-    let end = YieldsList-end (YieldsList-from_vec given.items gives.0 (gives.1 ∙ given.ok.0)) c.relations.yielded _ c.relations.yielded_by _ _ c.in-None.is c.next.ensures.steps in
+    let end = YieldsList-end (YieldsList-from_vec given.items gives.0 (gives.1 ∙ given.ok.0)) c.relations.yielded c.relations.relation-iterator c.relations.yielded_by c.next.result c.next.new.self c.in-None.is c.next.ensures.steps in
     c.relations.invariant.number ∙ end.1 ∙ ap (λ (xs : List Relation). length xs) c.relations-2.view_is
 
 pub returns-clause-stored : goal.returns-clause-stored
