@@ -80,7 +80,8 @@ pub(crate) fn z_coefficient(
         terms.push((rest, *c))?;
     }
     // The terms descend as those of the polynomial do.
-    match space_ring.stored(terms)? {
+    let made = space_ring.stored(terms)?;
+    match made {
         Some(coefficient) => Ok(coefficient),
         None => unreachable!(),
     }

@@ -105,9 +105,8 @@ fn kept_in_z(
     'leads: for lead in leads {
         let copy = lead.copy(alloc)?;
         let terms = vec![in alloc; (copy, 1)]?;
-        let Some(monomial) = space_ring.stored(terms)? else {
-            unreachable!()
-        };
+        let made = space_ring.stored(terms)?;
+        let Some(monomial) = made else { unreachable!() };
         monomials.push(monomial)?;
     }
     let places = kept_places(space_ring, alloc, &monomials, &Grevlex)?;
@@ -180,9 +179,8 @@ fn solved(alloc: Global, field: &FracRing, c: &KPoly, d: &KPoly) -> Result<Frac,
         return Err(NoMemory);
     };
     let den = ring.copy(alloc, d)?;
-    let Some(fraction) = field.fraction(num, den)? else {
-        unreachable!()
-    };
+    let made = field.fraction(num, den)?;
+    let Some(fraction) = made else { unreachable!() };
     let solved = field.cancel(alloc, fraction)?;
     Ok(solved)
 }

@@ -5,9 +5,8 @@
 --   product-meets, sum-meets     the degrees that a term may answer
 --   multiple-behind              terms above all others stay as they are
 use Rattle.std.proofs.Common.{◌≡◌, ℕ, suc, ◌<◌, ◌≤◌, ◌+◌, ◌⊎◌, inl, inr, Bool, true, false, List, [], ◌∷◌, ◌++◌, length, get_or, take, drop, take_all, refl, sym, ◌∙◌, ap, subst, arith, All, IsTrue, true≢false}
-use Rattle.std.specs.Prelude.{Contains}
 use Rattle.std.proofs.lemmas.Bool.{cases_order}
-use Rattle.std.proofs.lemmas.List.Elements.{All-get_or, All-head, All-weaker, Contains-append_right}
+use Rattle.std.proofs.lemmas.List.Elements.{All-head, Contains-append_right}
 use Rattle.std.specs.Cmp.{nat_cmp_is}
 use Rattle.std.specs.Ordering.{ordering_then}
 use Rattle.std.specs.declared.cmp.Ordering.{Ordering}

@@ -4,8 +4,8 @@ use Rattle.rinv_algebra.specs.Value.{rename}
 use Rattle.rinv_action.proofs.Generators.{difference-stored}
 use Rattle.rinv_action.proofs.inputs.graph_element.Goals as goal
 
-pub returns-in-Ok-2 : goal.returns-in-Ok-2
-returns-in-Ok-2 c =
+pub returns : goal.returns
+returns c =
     let p = c.args.ring.now.coeffs in
     let o = residue_ops p in
-    difference-stored p c.args.ring.now.vars (variable o c.args.place) (rename o c.args.places.now c.args.f.now) c.in_ok-variable.variable c.in-Ok.moved c.in-Ok-2.element c.in_ok-variable.ensures.value c.in-Ok.ensures.value c.in-Ok-2.ensures.element c.in-Ok-2.ensures.value
+    difference-stored p c.args.ring.now.vars (variable o c.args.place) (rename o c.args.places.now c.args.f.now) c.in_ok-variable.variable c.in-Ok.moved c.in-Ok-sub.element c.in_ok-variable.ensures.value c.in-Ok.ensures.value c.in-Ok-sub.ensures.element c.in-Ok-sub.ensures.value

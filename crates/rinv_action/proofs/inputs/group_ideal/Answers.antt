@@ -1,4 +1,4 @@
-use Rattle.std.proofs.Common.{◌≡◌, ◌∙◌, ◌<◌, length, get_or, sym, ap, rw, arith}
+use Rattle.std.proofs.Common.{◌≡◌, ◌∙◌, ◌<◌, length, get_or, sym, ap, arith}
 use Rattle.rinv_text.specs.Told.{Told}
 use Rattle.rinv_text.proofs.SystemParts.{parts-of}
 use Rattle.rinv_reduction.specs.Localised.{all_count}

@@ -6,7 +6,8 @@ use Rattle.rinv_action.proofs.inputs.moved_places.Goals as goal
 pub first-preserved : goal.first-preserved
 first-preserved c =
     let k = c.first.k in
-    c.in_ok-push.ensures.items ∙ ap (λ (ns : List ℕ). ns ++ k ∷ []) c.first.invariant ∙ sym (range-split 0 k 1)
+    let e : 0 + k ≡ k = omega arith in
+    c.in_ok-push.ensures.items ∙ ap (λ (ns : List ℕ). ns ++ k ∷ []) c.first.invariant ∙ ap (λ (j : ℕ). range_with_len 0 k ++ range_with_len j 1) (sym e) ∙ sym (range-split 0 k 1)
 
 pub second-init : goal.second-init
 second-init c =

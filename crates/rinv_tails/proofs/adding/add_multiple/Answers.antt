@@ -1,6 +1,6 @@
-use Rattle.std.proofs.Common.{◌≡◌, ◌∙◌, ◌<◌, ℕ, List, length, get_or, take_all, sym, subst, ap, arith}
+use Rattle.std.proofs.Common.{◌≡◌, ◌∙◌, ◌<◌, ℕ, List, length, get_or, sym, subst, ap, arith}
 use Rattle.std.proofs.lemmas.Result.{err_from_is_err_and}
-use Rattle.rinv_algebra.specs.Monomial.{monomial_product, quotient, total_degree, max_degree}
+use Rattle.rinv_algebra.specs.Monomial.{monomial_product, quotient, total_degree}
 use Rattle.rinv_defs.specs.Extended.{Relation}
 use Rattle.rinv_tails.specs.Stored.{IsTailTerm}
 use Rattle.rinv_tails.proofs.Multiples.{factor-at, adding-start, adding-more, adding-all, product-meets, sum-meets, product-term, product-length}

@@ -1,4 +1,4 @@
-use Rattle.std.proofs.Common.{◌≡◌, ◌∙◌, ◌∷◌, ◌<◌, ℕ, List, All, length, get_or, sym, subst, ap, arith}
+use Rattle.std.proofs.Common.{◌≡◌, ◌∙◌, ◌<◌, ℕ, List, All, length, get_or, sym, subst, ap}
 use Rattle.std.proofs.lemmas.Iterator.Adapters.{YieldsList-from_vec}
 use Rattle.std.proofs.lemmas.Iterator.Consumers.{YieldsList-turn, YieldsList-end}
 use Rattle.std.proofs.lemmas.List.{get_or_default, length_push}
@@ -7,7 +7,7 @@ use Rattle.rinv_ring.specs.Fault.{DegreesMeet}
 use Rattle.rinv_defs.specs.Extended.{Relation}
 use Rattle.rinv_tails.specs.Stored.{IsTail, IsStoredRelation, none}
 use Rattle.rinv_tails.specs.Reducing.{TailMeets}
-use Rattle.rinv_tails.proofs.ReducedLists.{AreReducing, lists-start, lists-more, lists-meet, made-again}
+use Rattle.rinv_tails.proofs.ReducedLists.{AreReducing, lists-start, lists-meet, made-again}
 use Rattle.rinv_tails.proofs.reducing.reduced_tails.Goals as goal
 
 pub relations-init : goal.relations-init
