@@ -5,16 +5,16 @@
 --   IsSolving            the terms of the element so far
 --   solving-start, solving-passed, solving-more    none yet; a term whose monomial in Z came before, or is the lead; a new one
 --   solved-sorted, stored-sorted    the relation, its terms from the greatest down
-use Rattle.std.proofs.Common.{◌≡◌, ℕ, zero, suc, ◌+◌, ◌*◌, ◌<◌, ◌≤◌, Bool, true, false, not, cond, List, [], ◌∷◌, ◌++◌, append-nil, length, length-take, length-drop, map, take, take_all, drop, get_or, nat_lt, refl, sym, ◌∙◌, ap, subst, inl, inr, arith, All, AllPairs, IsTrue, true≢false}
+use Rattle.std.proofs.Common.{◌≡◌, ℕ, zero, suc, ◌+◌, ◌*◌, ◌<◌, ◌≤◌, Bool, true, false, not, cond, List, [], ◌∷◌, ◌++◌, append-nil, length, map, take, take_all, drop, get_or, nat_lt, refl, sym, ◌∙◌, ap, subst, inl, inr, arith, All, AllPairs, IsTrue, true≢false}
 use Rattle.std.specs.Prelude.{IsFalse, Contains}
-use Rattle.std.specs.List.{list_any, AllByRecursion}
+use Rattle.std.specs.List.{list_any}
+use Rattle.std.proofs.lemmas.List.Kept.{AllPairs-cons}
 use Rattle.std.specs.List.Sorted.{IsPermutation, IsSortedBy}
 use Rattle.std.specs.Ordering.{is_ge, is_lt, ordering_reverse}
 use Rattle.std.specs.declared.cmp.Ordering.{Ordering}
 use Rattle.std.specs.declared.cmp.Ordering.TheVariants.{Less, Equal, Greater}
 use Rattle.std.proofs.lemmas.Bool.{cases_Bool, eqb-true}
 use Rattle.std.proofs.lemmas.Cmp.{tied_itself}
-use Rattle.std.proofs.lemmas.List.{map-append}
 use Rattle.std.proofs.lemmas.List.Elements.{All-nil, All-cons, All-head, All-tail, All-push}
 use Rattle.std.proofs.lemmas.List.Folds.{list_any_at}
 use Rattle.std.proofs.lemmas.List.Sorted.{All-permutation, IsPermutation-sym, IsStrictWeakOrder-flip, ranks_by, sorted_far}
@@ -44,16 +44,16 @@ use Rattle.rinv_frac.specs.Cancelling.{IsCancelled}
 use Rattle.rinv_frac.specs.Fractions.{IsStored}
 use Rattle.rinv_frac.proofs.CancelledValues.{cancelled-value, cancelled-same}
 use Rattle.rinv_frac.proofs.Values.{zero-value}
-use Rattle.rinv_poly.specs.Terms.{AreDistinct}
 use Rattle.rinv_poly.proofs.DistinctTerms.{distinct-permuted, distinct-at}
 use Rattle.rinv_poly.proofs.NormalFacts.{zero-nil}
+use Rattle.rinv_div.proofs.DistinctFalls.{pairs-distinct}
 use Rattle.rinv_reduction.specs.Localised.{all_count, lead_in_z, z_coefficient}
 use Rattle.rinv_reduction.proofs.Ties.{grevlex_one, second_block}
 use Rattle.rinv_tails.specs.Stored.{IsTailTerm, IsTail, IsStoredRelation}
 use Rattle.rinv_tails.proofs.Tails.{all-left, all-right}
 use Rattle.rinv_elim.specs.Localising.{IsSolution, IsSolved}
 use Rattle.rinv_elim.proofs.CutElements.{term-bounded}
-use Rattle.rinv_elim.proofs.ZCoefficients.{part-low, coefficient-more}
+use Rattle.rinv_elim.proofs.ZCoefficients.{z-length, coefficient-more}
 
 -- a fraction of a numerator that is not zero, cancelled
 pub solution-nonzero : (p : ℕ) (c d : Poly) (x : Fraction) → is_zero (residue_ops p) c ≡ false → is_zero (residue_ops p) d ≡ false → IsCancelled (residue_ops p) (opposite (residue_ops p) c, d) x → is_zero (residue_ops p) x.0 ≡ false
@@ -76,26 +76,22 @@ solution-nonzero p c d x nc nd made = go (is_zero (residue_ops p) x.0) refl
         absurd (true≢false (sym (facts.then o l (facts.back o l k.value) none) ∙ zero-value (residue_ops p) (residue_laws p) (opposite (residue_ops p) c, d) nd ∙ minus (is_zero (residue_ops p) (opposite (residue_ops p) c)) refl))
 
 -- -c/d, made as (0 - c)/d and cancelled
-pub solved-pair : (p : ℕ) (zero num den c d : Poly) (f x : Fraction) → IsSame (poly_ops (residue_ops p)) zero [] → IsSame (poly_ops (residue_ops p)) num (difference (residue_ops p) zero c) → den ≡ d → f ≡ (num, den) → IsCancelled (residue_ops p) f x → IsCancelled (residue_ops p) (opposite (residue_ops p) c, d) x
-solved-pair p zero num den c d f x none minus copied parts made =
+pub solved-pair : (p : ℕ) (nothing num den c d : Poly) (f x : Fraction) → IsSame (poly_ops (residue_ops p)) nothing [] → IsSame (poly_ops (residue_ops p)) num (difference (residue_ops p) nothing c) → den ≡ d → f ≡ (num, den) → IsCancelled (residue_ops p) f x → IsCancelled (residue_ops p) (opposite (residue_ops p) c, d) x
+solved-pair p nothing num den c d f x none minus copied parts made =
     let o = poly_ops (residue_ops p) in
     let l = poly_laws (residue_ops p) (residue_laws p) in
     cancelled-same (residue_ops p) (residue_laws p) (residue_field_laws p) (num, den) (opposite (residue_ops p) c, d) x (record {
-      numerator = facts.then o l minus (l.add_same zero [] (opposite (residue_ops p) c) (opposite (residue_ops p) c) none (l.same_refl (opposite (residue_ops p) c)));
+      numerator = facts.then o l minus (l.add_same nothing [] (opposite (residue_ops p) c) (opposite (residue_ops p) c) none (l.same_refl (opposite (residue_ops p) c)));
       denominator = subst (λ (g : Poly). IsSame (poly_ops (residue_ops p)) den g) copied (l.same_refl den);
     }) (subst (λ (g : Fraction). IsCancelled (residue_ops p) g x) parts made)
 
 -- one more monomial, which none has
-recursive-push : {X : Type 0} (P : X → Type 0) (xs : List X) (y : X) → AllByRecursion P xs → P y → AllByRecursion P (xs ++ y ∷ [])
-recursive-push P [] y h p = (p, tt)
-recursive-push P (x ∷ xs) y h p = (h.0, recursive-push P xs y h.1 p)
-
-distinct-push : (f : FractionPoly) (z : List ℕ) (x : Fraction) → AreDistinct f → ((j : ℕ) (d : List ℕ × Fraction) → j < length f → same_monomial (get_or f j d).0 z ≡ false) → AreDistinct (f ++ (z, x) ∷ [])
-distinct-push [] z x h off = (tt, tt)
-distinct-push (t ∷ f) z x h off = (
-  subst (AllByRecursion (λ m. same_monomial t.0 m ≡ false)) (sym (map-append (λ (u : List ℕ × Fraction). u.0) f ((z, x) ∷ []))) (recursive-push (λ m. same_monomial t.0 m ≡ false) (map (λ (u : List ℕ × Fraction). u.0) f) z h.0 (off 0 t (omega arith))),
-  distinct-push f z x h.1 (λ j d low. off (suc j) d (omega (arith, low))),
-)
+pairs-push : (f : FractionPoly) (z : List ℕ) (x : Fraction) → AllPairs (λ t u. same_monomial t.0 u.0 ≡ false) f → ((j : ℕ) (d : List ℕ × Fraction) → j < length f → same_monomial (get_or f j d).0 z ≡ false) → AllPairs (λ t u. same_monomial t.0 u.0 ≡ false) (f ++ (z, x) ∷ [])
+pairs-push [] z x h off = λ i j d low high. absurd (omega (arith, low, high))
+pairs-push (t ∷ f) z x h off =
+    AllPairs-cons (λ t u. same_monomial t.0 u.0 ≡ false) t (f ++ (z, x) ∷ [])
+    (All-push (λ u. same_monomial t.0 u.0 ≡ false) f (z, x) (λ k d low. h 0 (suc k) d (omega arith) (omega (arith, low))) (off 0 t (omega arith)))
+    (pairs-push f z x (λ i j d low high. h (suc i) (suc j) d (omega (arith, low)) (omega (arith, high))) (λ j d low. off (suc j) d (omega (arith, low))))
 
 absent-all : (b : List ℕ) (f : FractionPoly) → IsAbsent b f → All (λ t. same_monomial t.0 b ≡ false) f
 absent-all b [] a = All-nil (λ t. same_monomial t.0 b ≡ false)
@@ -104,9 +100,6 @@ absent-all b (t ∷ f) a = All-cons (λ t. same_monomial t.0 b ≡ false) t f a.
 module _ (s : System) where
   abbrev n : ℕ
   n = space_count s
-
-  pub z-length : (m : List ℕ) → length m ≡ all_count s → length (z_part s m) ≡ space_count s
-  z-length m many = let a = length-take n (drop (group_count s) m) in let b = length-drop (group_count s) m in omega (arith, a, b, many)
 
   -- the monomial in Z of a term is below that of the leading monomial, or the same
   pub z-below : (h : Poly) → IsNormal (residue_ops s.p) (λ c. nat_lt c s.p) (all_count s) h → IsFalse (is_zero (residue_ops s.p) h) → IsTrue (is_free (group_count s) (leading s h)) → length (leading s h) ≡ all_count s → All (λ t. IsTrue (is_free (group_count s) t.0)) h
@@ -118,7 +111,7 @@ module _ (s : System) where
           (subst (λ (u : Term ℕ). IsTrue (is_ge (action_order s (leading s h) u.0))) (sym here) (term-bounded s h normal nonzero k t low))
 
       tied : IsTrue (is_ge (grevlex (z_part s t.0) (lead_in_z s h))) → ⊥
-      tied g = true≢false (sym (grevlex_one n (z_part s t.0) (lead_in_z s h) (let e = z-length t.0 long in omega (arith, e)) (let e = z-length (leading s h) many in omega (arith, e)) g higher) ∙ off)
+      tied g = true≢false (sym (grevlex_one n (z_part s t.0) (lead_in_z s h) (let e = z-length s t.0 long in omega (arith, e)) (let e = z-length s (leading s h) many in omega (arith, e)) g higher) ∙ off)
 
       go : (o : Ordering) → grevlex (z_part s t.0) (lead_in_z s h) ≡ o → o ≡ Less
       go Less e = refl
@@ -130,7 +123,7 @@ module _ (s : System) where
     pub record IsSolving (k : ℕ) (tail : FractionPoly) : Type 0 where
       pub others : All (λ t. IsFalse (same_monomial lead t.0)) tail
       pub made : All (λ t. IsSolution s h lead t.0 t.1) tail
-      pub once : AreDistinct tail
+      pub once : AllPairs (λ t u. same_monomial t.0 u.0 ≡ false) tail
       pub terms : All (IsTailTerm s.p (space_count s)) tail
       pub below : All (λ t. grevlex t.0 lead ≡ Less) tail
       pub whole : (b : List ℕ) → IsFalse (same_monomial lead b) → All (λ t. same_monomial t.0 b ≡ false) tail → z_coefficient s (take k h) b ≡ []
@@ -139,7 +132,7 @@ module _ (s : System) where
     solving-start tail e = rw e (record {
       others = All-nil (λ t. IsFalse (same_monomial lead t.0));
       made = All-nil (λ t. IsSolution s h lead t.0 t.1);
-      once = tt;
+      once = λ i j d low high. absurd (omega (arith, high));
       terms = All-nil (IsTailTerm s.p (space_count s));
       below = All-nil (λ t. grevlex t.0 lead ≡ Less);
       whole = λ b off absent. refl;
@@ -153,7 +146,7 @@ module _ (s : System) where
           coefficient-more s h b k t low here ∙ ap (λ (f : Poly). f ++ cond (same_monomial (z_part s t.0) b) ((drop (group_count s + space_count s) t.0, t.1) ∷ []) []) none ∙ ap (λ (c : Bool). cond c ((drop (group_count s + space_count s) t.0, t.1) ∷ []) []) off_z
 
       differs : (b : List ℕ) → (same_monomial z b ≡ true → ⊥) → same_monomial z b ≡ false
-      differs b no = elim (cases_Bool (same_monomial z b)) [ inl e ↦ absurd (no e) | inr e ↦ e ]
+      differs b never = elim (cases_Bool (same_monomial z b)) [ inl e ↦ absurd (never e) | inr e ↦ e ]
 
       -- its monomial in Z is the lead
       pub solving-lead : same_monomial z lead ≡ true → IsSolving (k + 1) tail
@@ -187,7 +180,7 @@ module _ (s : System) where
       solving-more x more e off new made term below = rw e (record {
         others = All-push (λ u. IsFalse (same_monomial lead u.0)) tail (z, x) so_far.others (turned off);
         made = All-push (λ u. IsSolution s h lead u.0 u.1) tail (z, x) so_far.made made;
-        once = distinct-push tail z x so_far.once apart;
+        once = pairs-push tail z x so_far.once apart;
         terms = All-push (IsTailTerm s.p (space_count s)) tail (z, x) so_far.terms term;
         below = All-push (λ u. grevlex u.0 lead ≡ Less) tail (z, x) so_far.below below;
         whole = λ b other absent. unchanged b (last b absent) (so_far.whole b other (first b absent));
@@ -219,7 +212,7 @@ module _ (s : System) where
 
       apart : (i j : ℕ) (d : List ℕ × Fraction) → i < j → j < length sorted → same_monomial (get_or sorted j d).0 (get_or sorted i d).0 ≡ false
       apart i j d low high =
-          let off = distinct-at sorted (distinct-permuted tail sorted permuted done.once) i j d low high in
+          let off = distinct-at sorted (distinct-permuted tail sorted permuted (pairs-distinct tail done.once)) i j d low high in
           elim (cases_Bool (same_monomial (get_or sorted j d).0 (get_or sorted i d).0)) [
             | inl c ↦ absurd (true≢false (sym (same_monomial_sym (get_or sorted j d).0 (get_or sorted i d).0 c) ∙ off))
             | inr c ↦ c

@@ -3,12 +3,12 @@
 --   hits, misses         whether the section misses the orbits
 --   missed-element       the first such element
 --   coefficient-nonzero  the coefficient of a monomial in Z that a term has
-use Rattle.std.proofs.Common.{◌≡◌, ℕ, zero, suc, ◌+◌, ◌*◌, ◌<◌, ◌≤◌, Bool, true, false, not, cond, List, [], ◌∷◌, ◌++◌, length, length-take, length-drop, length-map, map, filter, take, drop, take-append-drop, get_or, replicate, sum, nat_lt, refl, sym, ◌∙◌, ap, ap₂, subst, inl, inr, arith, All, IsTrue, true≢false}
+use Rattle.std.proofs.Common.{◌≡◌, ℕ, zero, suc, ◌+◌, ◌*◌, ◌<◌, ◌≤◌, Bool, true, false, not, cond, List, [], ◌∷◌, ◌++◌, length, length-take, length-drop, map, filter, take, drop, take-append-drop, get_or, replicate, sum, nat_lt, refl, sym, ◌∙◌, ap, ap₂, subst, inl, inr, arith, All, IsTrue, true≢false}
 use Rattle.std.specs.Prelude.{IsFalse, ◌==◌}
 use Rattle.std.specs.List.{list_any}
 use Rattle.std.proofs.lemmas.Bool.{eqb-true, cases_Bool}
 use Rattle.std.proofs.lemmas.Bool.Decides.{nat_tests}
-use Rattle.std.proofs.lemmas.List.{get_or-map, get_or-take, drop-drop}
+use Rattle.std.proofs.lemmas.List.{length-map, get_or-map, get_or-take, drop-drop}
 use Rattle.std.proofs.lemmas.List.Elements.{All-nil, All-cons, All-head, All-tail, All-contains}
 use Rattle.std.proofs.lemmas.List.Folds.{list_any_at, list_any_none}
 use Rattle.std.proofs.lemmas.List.Sums.{sum_by-cons}
@@ -136,7 +136,7 @@ module _ (s : System) where
       same : same_monomial (z_part s t.0) z ≡ true
       same = subst (λ (m : List ℕ). same_monomial m z ≡ true) (sym (zeros (z_part s t.0) part-zero ∙ ap (λ (j : ℕ). replicate j 0) (part-many ∙ sym few) ∙ sym (zeros z none))) (same_monomial_refl z)
 
-      go : (b : Bool) → b ≡ true → past (l + n) (z_coefficient s h z) ≡ h → past (l + n) (map (λ (u : Term ℕ). (drop (l + n) u.0, u.1)) (cond b (t ∷ filter (λ (u : Term ℕ). same_monomial (z_part s u.0) z) h) (filter (λ (u : Term ℕ). same_monomial (z_part s u.0) z) h))) ≡ t ∷ h
+      go : (b : Bool) → b ≡ true → past (l + n) (z_coefficient s h z) ≡ h → past (l + n) (map {B = Term ℕ} (λ (u : Term ℕ). (drop (l + n) u.0, u.1)) (cond b (t ∷ filter (λ (u : Term ℕ). same_monomial (z_part s u.0) z) h) (filter (λ (u : Term ℕ). same_monomial (z_part s u.0) z) h))) ≡ t ∷ h
       go false e rest = absurd (true≢false (sym e))
       go true e rest = ap₂ (λ (m : List ℕ) (r : Poly). (m, t.1) ∷ r) (ap (λ (f : List ℕ). f ++ drop (l + n) t.0) (sym front) ∙ take-append-drop (l + n) t.0) rest
 
@@ -149,7 +149,7 @@ module _ (s : System) where
       later zero low e off none again = true≢false (sym e ∙ off)
       later (suc k) low e off none again = again k (omega (arith, low)) e none
 
-      go : (b : Bool) → same_monomial (z_part s t.0) z ≡ b → map (λ (u : Term ℕ). (drop (l + n) u.0, u.1)) (cond b (t ∷ filter (λ (u : Term ℕ). same_monomial (z_part s u.0) z) h) (filter (λ (u : Term ℕ). same_monomial (z_part s u.0) z) h)) ≡ []
+      go : (b : Bool) → same_monomial (z_part s t.0) z ≡ b → map {B = Term ℕ} (λ (u : Term ℕ). (drop (l + n) u.0, u.1)) (cond b (t ∷ filter (λ (u : Term ℕ). same_monomial (z_part s u.0) z) h) (filter (λ (u : Term ℕ). same_monomial (z_part s u.0) z) h)) ≡ []
           → ((j : ℕ) → j < length h → IsTrue (same_monomial (z_part s (get_or h j d).0) z) → z_coefficient s h z ≡ [] → ⊥) → ⊥
       go true on none again = cc
       go false off none again = later k low e off none again

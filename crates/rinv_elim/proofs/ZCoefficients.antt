@@ -1,10 +1,12 @@
 -- The coefficient of a monomial in Z, in a polynomial without the group's variables, as it is made.
 --   part-low             a part of a monomial has no greater degree
---   coefficient-more     the coefficient with one term more
+--   coefficient-more, coefficient-passed, coefficient-kept    the coefficient with one term more
+--   term-length, z-length    exponents of a term, and its monomial in Z
 --   same-front           terms with one monomial in Z agree in all variables but the space's
 --   coefficient-ordered, coefficient-normal    it is a polynomial in normal form
-use Rattle.std.proofs.Common.{◌≡◌, ℕ, zero, suc, ◌+◌, ◌*◌, ◌≤◌, ◌<◌, Bool, true, false, cond, List, [], ◌∷◌, ◌++◌, length, length-take, length-drop, map, filter, take, drop, get_or, replicate, sum, nat_lt, refl, sym, ◌∙◌, ap, subst, arith, All, AllPairs, IsTrue}
+use Rattle.std.proofs.Common.{◌≡◌, ℕ, zero, suc, ◌+◌, ◌*◌, ◌≤◌, ◌<◌, Bool, true, false, cond, List, [], ◌∷◌, ◌++◌, append-nil, length, length-take, length-drop, map, filter, take, drop, get_or, replicate, sum, nat_lt, refl, sym, ◌∙◌, ap, subst, arith, All, AllPairs, IsTrue}
 use Rattle.std.specs.Prelude.{◌==◌}
+use Rattle.std.specs.Cmp.{nat_cmp_is}
 use Rattle.std.specs.Ordering.{nat_cmp, ordering_then}
 use Rattle.std.specs.declared.cmp.Ordering.{Ordering}
 use Rattle.std.specs.declared.cmp.Ordering.TheVariants.{Less, Equal}
@@ -24,7 +26,6 @@ use Rattle.rinv_groebner.specs.Elimination.{is_free}
 use Rattle.rinv_defs.specs.System.{System, Poly, group_count, space_count}
 use Rattle.rinv_defs.specs.RelationConditions.{z_part}
 use Rattle.rinv_poly.proofs.Forms.{IsNormalTerm, IsOrdered, IsDescending, Below, ordered-from_normal, normal-from_ordered, ordered-nil, descending-head, descending-tail}
-use Rattle.rinv_poly.proofs.Lexicographic.{lex_itself}
 use Rattle.rinv_tails.proofs.Tails.{take-at}
 use Rattle.rinv_reduction.specs.Localised.{all_count, z_coefficient}
 
@@ -72,7 +73,7 @@ lex-behind (suc n) (x ∷ a) (y ∷ b) e =
     rw p (ap (λ (o : Ordering). ordering_then o (lex a b)) (tied y) ∙ lex-behind n a b q)
   where
     tied : (y : ℕ) → nat_cmp y y ≡ Equal
-    tied y = lex_itself (y ∷ [])
+    tied y = sym (nat_cmp_is y y Equal refl)
 
 -- ---- the coefficient
 
@@ -92,7 +93,7 @@ module _ (s : System) where
   coefficient-append (t ∷ f) g z = go (same_monomial (z_part s t.0) z) (coefficient-append f g z)
     where
       at : Bool → Poly → Poly
-      at b h = map (λ (u : Term ℕ). (drop behind u.0, u.1)) (cond b (t ∷ filter (λ (u : Term ℕ). same_monomial (z_part s u.0) z) h) (filter (λ (u : Term ℕ). same_monomial (z_part s u.0) z) h))
+      at b h = map {B = Term ℕ} (λ (u : Term ℕ). (drop behind u.0, u.1)) (cond b (t ∷ filter (λ (u : Term ℕ). same_monomial (z_part s u.0) z) h) (filter (λ (u : Term ℕ). same_monomial (z_part s u.0) z) h))
 
       go : (b : Bool) → z_coefficient s (f ++ g) z ≡ z_coefficient s f z ++ z_coefficient s g z → at b (f ++ g) ≡ at b f ++ z_coefficient s g z
       go true rest = ap (λ (h : Poly). (drop behind t.0, t.1) ∷ h) rest
@@ -102,11 +103,26 @@ module _ (s : System) where
   pub coefficient-more : (h : Poly) (z : List ℕ) (k : ℕ) (t : Term ℕ) → k < length h → t ≡ get_or h k t → z_coefficient s (take (k + 1) h) z ≡ z_coefficient s (take k h) z ++ given z t
   coefficient-more h z k t low here = ap (λ (f : Poly). z_coefficient s f z) (take-at h k t low here) ∙ coefficient-append (take k h) (t ∷ []) z ∙ ap (λ (f : Poly). z_coefficient s (take k h) z ++ f) (last (same_monomial (z_part s t.0) z))
     where
-      last : (b : Bool) → map (λ (u : Term ℕ). (drop behind u.0, u.1)) (cond b (t ∷ []) []) ≡ cond b ((drop behind t.0, t.1) ∷ []) []
+      last : (b : Bool) → map {B = Term ℕ} (λ (u : Term ℕ). (drop behind u.0, u.1)) (cond b (t ∷ []) []) ≡ cond b ((drop behind t.0, t.1) ∷ []) []
       last true = refl
       last false = refl
 
+  pub coefficient-passed : (h : Poly) (z : List ℕ) (k : ℕ) (t : Term ℕ) → k < length h → t ≡ get_or h k t → (f : Poly) → f ≡ z_coefficient s (take k h) z → same_monomial (z_part s t.0) z ≡ false → f ≡ z_coefficient s (take (k + 1) h) z
+  coefficient-passed h z k t low here f so_far off =
+      so_far ∙ sym (append-nil (z_coefficient s (take k h) z)) ∙ ap (λ (b : Bool). z_coefficient s (take k h) z ++ cond b ((drop behind t.0, t.1) ∷ []) []) (sym off) ∙ sym (coefficient-more h z k t low here)
+
+  pub coefficient-kept : (h : Poly) (z : List ℕ) (k : ℕ) (t : Term ℕ) → k < length h → t ≡ get_or h k t → (f more : Poly) (m : List ℕ) → f ≡ z_coefficient s (take k h) z → same_monomial (z_part s t.0) z ≡ true → m ≡ drop (group_count s + space_count s) t.0 → more ≡ f ++ (m, t.1) ∷ [] → more ≡ z_coefficient s (take (k + 1) h) z
+  coefficient-kept h z k t low here f more m so_far on is e =
+      e ∙ ap (λ (g : Poly). g ++ (m, t.1) ∷ []) so_far ∙ ap (λ (x : List ℕ). z_coefficient s (take k h) z ++ (x, t.1) ∷ []) is
+      ∙ ap (λ (b : Bool). z_coefficient s (take k h) z ++ cond b ((drop behind t.0, t.1) ∷ []) []) (sym on) ∙ sym (coefficient-more h z k t low here)
+
   -- ---- in normal form
+
+  pub term-length : (h : Poly) → IsNormal (residue_ops s.p) (λ c. nat_lt c s.p) (all_count s) h → (k : ℕ) (t : Term ℕ) → k < length h → t ≡ get_or h k t → length t.0 ≡ all_count s
+  term-length h normal k t low here = subst (λ (u : Term ℕ). length u.0 ≡ all_count s) (sym here) ((ordered-from_normal (residue_ops s.p) (λ c. nat_lt c s.p) (all_count s) h normal).terms k t low).vars
+
+  pub z-length : (m : List ℕ) → length m ≡ all_count s → length (z_part s m) ≡ space_count s
+  z-length m many = let a = length-take (space_count s) (drop (group_count s) m) in let b = length-drop (group_count s) m in omega (arith, a, b, many)
 
   z-is : (m z : List ℕ) → length m ≡ all_count s → length z ≡ space_count s → IsTrue (same_monomial (z_part s m) z) → z_part s m ≡ z
   z-is m z many few e =
@@ -145,7 +161,7 @@ module _ (s : System) where
     under t w f e (u ∷ h) below terms frees = go (same_monomial (z_part s u.0) z) refl (under t w f e h (All-tail (λ (u : Term ℕ). lex u.0 t.0 ≡ Less) u h below) (All-tail Whole u h terms) (All-tail free u h frees))
       where
         go : (b : Bool) → same_monomial (z_part s u.0) z ≡ b → Below (drop behind t.0) (z_coefficient s h z)
-            → Below (drop behind t.0) (map (λ (u : Term ℕ). (drop behind u.0, u.1)) (cond b (u ∷ filter (λ (u : Term ℕ). same_monomial (z_part s u.0) z) h) (filter (λ (u : Term ℕ). same_monomial (z_part s u.0) z) h)))
+            → Below (drop behind t.0) (map {B = Term ℕ} (λ (u : Term ℕ). (drop behind u.0, u.1)) (cond b (u ∷ filter (λ (u : Term ℕ). same_monomial (z_part s u.0) z) h) (filter (λ (u : Term ℕ). same_monomial (z_part s u.0) z) h)))
         go false off rest = rest
         go true on rest = All-cons (λ (u : Term ℕ). lex u.0 (drop behind t.0) ≡ Less) (drop behind u.0, u.1) (z_coefficient s h z)
             (sym (lex-spaces u.0 t.0 z (All-head Whole u h terms).vars w.vars few (All-head free u h frees) f on e) ∙ All-head (λ (u : Term ℕ). lex u.0 t.0 ≡ Less) u h below) rest
@@ -155,7 +171,7 @@ module _ (s : System) where
     coefficient-ordered (t ∷ h) o frees = go (same_monomial (z_part s t.0) z) refl (coefficient-ordered h (record { terms = All-tail Whole t h o.terms; descending = descending-tail t h o.descending }) (All-tail free t h frees))
       where
         go : (b : Bool) → same_monomial (z_part s t.0) z ≡ b → IsOrdered (residue_ops s.p) (λ c. nat_lt c s.p) (space_count s) (z_coefficient s h z)
-            → IsOrdered (residue_ops s.p) (λ c. nat_lt c s.p) (space_count s) (map (λ (u : Term ℕ). (drop behind u.0, u.1)) (cond b (t ∷ filter (λ (u : Term ℕ). same_monomial (z_part s u.0) z) h) (filter (λ (u : Term ℕ). same_monomial (z_part s u.0) z) h)))
+            → IsOrdered (residue_ops s.p) (λ c. nat_lt c s.p) (space_count s) (map {B = Term ℕ} (λ (u : Term ℕ). (drop behind u.0, u.1)) (cond b (t ∷ filter (λ (u : Term ℕ). same_monomial (z_part s u.0) z) h) (filter (λ (u : Term ℕ). same_monomial (z_part s u.0) z) h)))
         go false off rest = rest
         go true on rest = record {
           terms = All-cons Part (drop behind t.0, t.1) (z_coefficient s h z) (part_of t (All-head Whole t h o.terms)) rest.terms;

@@ -9,6 +9,7 @@ mod coefficients;
 mod eliminating;
 mod localising;
 mod reducing;
+mod relating;
 mod stop;
 
 pub use eliminating::eliminate;

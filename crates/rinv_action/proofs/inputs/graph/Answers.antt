@@ -6,7 +6,7 @@ use Rattle.rinv_sub.specs.Places.{ArePlaces}
 use Rattle.rinv_defs.specs.System.{Poly}
 use Rattle.rinv_text.specs.Told.{Told}
 use Rattle.rinv_text.proofs.SystemParts.{parts-of, between}
-use Rattle.rinv_parts.specs.Points.{AreStored}
+use Rattle.rinv_parts.specs.Points.{AreStored, IsStoredIn}
 use Rattle.rinv_parts.proofs.Stored.{stored-range}
 use Rattle.rinv_reduction.specs.Localised.{all_count}
 use Rattle.rinv_action.proofs.Generators.{moved_places, places-distinct, graph_at, graph-is, normal-at, element-over}
@@ -90,8 +90,9 @@ coordinates-preserved c =
     let low : k < length s.action = omega (arith, c.coordinates-test.true, n, number) in
     let here : f ≡ get_or s.action k f = c.index-moved.ensures ∙ ap (λ (t : Told). get_or t.system.action k f) c.system.view_is in
     let from_vars : c.new-from.result.vars ≡ length s.group + length s.space = c.new-from.ensures.count ∙ ap₂ (λ (i j : ℕ). i + j) l n in
+    let start : k ≡ 0 + k = omega arith in
     rw c.in_ok-push.ensures.items (stored-range s.p (all_count s) (graph_at s) 0 k c.coordinates.graph.items c.in_ok-element.element c.coordinates.invariant
-    (element-over s c.args.ring.now.coeffs c.args.ring.now.vars (c.len-group.result + k) k c.deref.result.now f c.in_ok-element.element c.requires.field c.requires.vars (ap (λ (i : ℕ). i + k) l) places (here ∙ get_or_default s.action k f [] low) c.in_ok-element.ensures))
+    (subst (λ (j : ℕ). IsStoredIn s.p (all_count s) (graph_at s j) c.in_ok-element.element) start (element-over s c.args.ring.now.coeffs c.args.ring.now.vars (c.len-group.result + k) k c.deref.result.now f c.in_ok-element.element c.requires.field c.requires.vars (ap (λ (i : ℕ). i + k) l) places (here ∙ get_or_default s.action k f [] low) c.in_ok-element.ensures)))
 
 pub returns : goal.returns
 returns c =

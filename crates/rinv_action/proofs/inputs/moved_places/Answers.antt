@@ -1,4 +1,4 @@
-use Rattle.std.proofs.Common.{◌≡◌, ◌∙◌, ◌∷◌, ◌++◌, [], ◌+◌, ℕ, List, append-nil, append_assoc, arith, subst, sym, ap}
+use Rattle.std.proofs.Common.{◌≡◌, ◌∙◌, ◌∷◌, ◌++◌, [], ◌+◌, ℕ, List, append-nil, append_assoc, arith, sym, ap}
 use Rattle.std.specs.List.{range_with_len}
 use Rattle.rinv_parts.proofs.Names.{range-split}
 use Rattle.rinv_action.proofs.inputs.moved_places.Goals as goal

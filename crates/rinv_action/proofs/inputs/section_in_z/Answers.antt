@@ -1,4 +1,4 @@
-use Rattle.std.proofs.Common.{◌≡◌, ◌∙◌, ◌<◌, ◌+◌, ◌*◌, ℕ, List, length, map, take, take_all, get_or, sym, ap, ap₂, subst, arith}
+use Rattle.std.proofs.Common.{◌≡◌, ◌∙◌, ◌<◌, ◌+◌, ℕ, List, length, map, take_all, get_or, sym, ap, subst, arith}
 use Rattle.rinv_algebra.specs.Polynomial.{past}
 use Rattle.rinv_defs.specs.System.{Poly, group_count}
 use Rattle.rinv_text.specs.Told.{Told}
