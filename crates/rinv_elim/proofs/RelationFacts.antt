@@ -1,8 +1,9 @@
 -- What the making of an element's relation rests on.
 --   frees, lead-many, lead-low, divisor-nonzero    of the element and its leading monomial
 --   term-many, z-many, z-under, tail-term          of one of its terms
-use Rattle.std.proofs.Common.{◌≡◌, ℕ, ◌<◌, ◌≤◌, false, List, [], ◌∷◌, length, get_or, nat_lt, sym, ◌∙◌, ap, subst, arith, All, IsTrue}
+use Rattle.std.proofs.Common.{◌≡◌, ℕ, ◌<◌, ◌≤◌, false, List, [], ◌∷◌, length, map, get_or, nat_lt, sym, ◌∙◌, ap, subst, arith, All, IsTrue}
 use Rattle.std.specs.Prelude.{IsFalse}
+use Rattle.std.proofs.lemmas.List.{length-map, get_or_default}
 use Rattle.std.specs.declared.cmp.Ordering.TheVariants.{Less}
 use Rattle.rinv_algebra.specs.Residue.{residue_ops}
 use Rattle.rinv_algebra.specs.Monomial.{same_monomial, total_degree, max_degree}
@@ -17,11 +18,12 @@ use Rattle.rinv_defs.specs.PairConditions.{leading}
 use Rattle.rinv_defs.specs.RelationConditions.{z_part}
 use Rattle.rinv_frac.specs.Fractions.{IsStored}
 use Rattle.rinv_poly.proofs.Forms.{IsNormalTerm, ordered-from_normal}
-use Rattle.rinv_reduction.specs.Localised.{all_count, lead_in_z, z_coefficient}
+use Rattle.rinv_parts.specs.Points.{ArePolynomials}
+use Rattle.rinv_reduction.specs.Localised.{IsCut, all_count, lead_in_z, z_coefficient}
 use Rattle.rinv_tails.specs.Stored.{IsTailTerm}
 use Rattle.rinv_elim.specs.Localising.{IsSolution}
-use Rattle.rinv_elim.proofs.CutElements.{group_eliminated, terms-free, lead-length, lead-term}
-use Rattle.rinv_elim.proofs.SpaceElements.{coefficient-nonzero}
+use Rattle.rinv_elim.proofs.CutElements.{element-at, group_eliminated, terms-free, lead-length, lead-term}
+use Rattle.rinv_elim.proofs.SpaceElements.{coefficient-nonzero, lead-at}
 use Rattle.rinv_elim.proofs.Solving.{z-below, solution-nonzero}
 use Rattle.rinv_elim.proofs.ZCoefficients.{part-low, z-length}
 
@@ -76,3 +78,11 @@ module _ (s : System) (h : Poly) (normal : IsNormal (residue_ops s.p) (λ c. nat
         fraction = stored;
         nonzero = solution-nonzero s.p (z_coefficient s h z) (z_coefficient s h (lead_in_z s h)) x z-nonzero divisor-nonzero made;
       }
+
+-- the leading monomials of the cut, in Z
+pub leads-many : (s : System) (cut : List Poly) → IsCut s cut → ArePolynomials s.p (all_count s) cut → (leads : List (List ℕ)) → leads ≡ map (lead_in_z s) cut → All (λ m. length m ≡ space_count s) leads
+leads-many s cut is_cut normal leads are k d low =
+    let count = ap (λ (ms : List (List ℕ)). length ms) are ∙ length-map cut (lead_in_z s) in
+    let inside : k < length cut = omega (arith, low, count) in
+    let e = element-at s cut is_cut k inside in
+    ap (λ (m : List ℕ). length m) (get_or_default leads k d [] low ∙ lead-at s cut is_cut leads are k inside) ∙ lead-many s (get_or cut k []) (normal k [] inside) e.nonzero e.free

@@ -1,6 +1,6 @@
 -- Monomials as polynomials with one term, and the test whether two are the same.
 --   single-normal, single-nonzero, single-lead    a monomial with the coefficient 1
---   singles-leads        the leading monomials of such
+--   singles-normal, singles-nonzero, singles-leads    lists of such
 --   same-divides         two monomials that divide one another are the same
 use Rattle.std.proofs.Common.{◌≡◌, ℕ, ◌+◌, ◌<◌, ◌≤◌, Bool, true, false, not, ◌&&◌, ◌==◌, List, [], ◌∷◌, length, map, nat_lt, nat_le, refl, sym, ◌∙◌, ap, ap₂, subst, inl, inr, arith, All, IsTrue, true≢false}
 use Rattle.std.proofs.lemmas.Bool.{cases_Bool}
@@ -63,6 +63,18 @@ module _ (p v : ℕ) (listed : IsTrue (is_listed p)) where
         go (a, has, same) =
             let long : length lead ≡ v = lead-vars (residue_ops p) (residue_laws p) (λ c. nat_lt c p) v grevlex grevlex_laws single single-ordered single-nonzero in
             sym (same_monomial-of_length a lead (ap (λ (b : List ℕ). length b) (only has) ∙ many ∙ sym long) same) ∙ only has
+
+  pub singles-normal : (ms : List (List ℕ)) → All (λ m. length m ≡ v) ms → All (λ m. total_degree m ≤ max_degree) ms → All (IsNormal (residue_ops p) (λ c. nat_lt c p) v) (map (λ m. (m, 1) ∷ []) ms)
+  singles-normal [] long low = All-nil (IsNormal (residue_ops p) (λ c. nat_lt c p) v)
+  singles-normal (m ∷ ms) long low =
+      All-cons (IsNormal (residue_ops p) (λ c. nat_lt c p) v) ((m, 1) ∷ []) (map (λ m. (m, 1) ∷ []) ms) (single-normal m (All-head (λ (m : List ℕ). length m ≡ v) m ms long) (All-head (λ (m : List ℕ). total_degree m ≤ max_degree) m ms low))
+      (singles-normal ms (All-tail (λ (m : List ℕ). length m ≡ v) m ms long) (All-tail (λ (m : List ℕ). total_degree m ≤ max_degree) m ms low))
+
+  pub singles-nonzero : (ms : List (List ℕ)) → All (λ m. length m ≡ v) ms → All (λ m. total_degree m ≤ max_degree) ms → All (λ h. is_zero (residue_ops p) h ≡ false) (map (λ m. (m, 1) ∷ []) ms)
+  singles-nonzero [] long low = All-nil (λ h. is_zero (residue_ops p) h ≡ false)
+  singles-nonzero (m ∷ ms) long low =
+      All-cons (λ h. is_zero (residue_ops p) h ≡ false) ((m, 1) ∷ []) (map (λ m. (m, 1) ∷ []) ms) (single-nonzero m (All-head (λ (m : List ℕ). length m ≡ v) m ms long) (All-head (λ (m : List ℕ). total_degree m ≤ max_degree) m ms low))
+      (singles-nonzero ms (All-tail (λ (m : List ℕ). length m ≡ v) m ms long) (All-tail (λ (m : List ℕ). total_degree m ≤ max_degree) m ms low))
 
   -- those of a list of monomials
   pub singles-leads : (ms : List (List ℕ)) → All (λ m. length m ≡ v) ms → All (λ m. total_degree m ≤ max_degree) ms → map (leading_monomial (residue_ops p) grevlex) (map (λ m. (m, 1) ∷ []) ms) ≡ ms

@@ -77,7 +77,7 @@ module _ (s : System) where
   -- ---- the cut
 
   module _ (cut : List Poly) (is_cut : IsCut s cut) (leads : List (List ℕ)) (are : leads ≡ map (lead_in_z s) cut) where
-    lead-at : (k : ℕ) → k < length cut → get_or leads k [] ≡ lead_in_z s (get_or cut k [])
+    pub lead-at : (k : ℕ) → k < length cut → get_or leads k [] ≡ lead_in_z s (get_or cut k [])
     lead-at k low = ap (λ (ms : List (List ℕ)). get_or ms k []) are ∙ get_or-map (lead_in_z s) cut k [] [] low
 
     count : length leads ≡ length cut
