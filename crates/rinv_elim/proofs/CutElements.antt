@@ -1,6 +1,6 @@
 -- The elements of the cut, in normal form.
 --   action_orders, group_eliminated, both_eliminated    the action's order, which eliminates the group's variables, and these and Z
---   IsElement, element   what is known of an element of the cut
+--   IsElement, element, all-nonzero    what is known of an element of the cut
 --   terms-free           none of its terms has a variable that its leading monomial leaves out
 --   lead-term            its leading monomial is that of a term
 use Rattle.std.proofs.Common.{◌≡◌, ℕ, zero, suc, map, ◌+◌, ◌*◌, ◌<◌, ◌≤◌, Bool, true, false, List, [], ◌∷◌, length, sum, take, get_or, nat_lt, refl, sym, ◌∙◌, ap, subst, arith, All, IsTrue}
@@ -80,6 +80,10 @@ module _ (s : System) where
 
   pub element-at : (cut : List Poly) → IsCut s cut → (k : ℕ) → k < length cut → IsElement (get_or cut k [])
   element-at cut is_cut k low = element cut is_cut (get_or cut k []) (has_at [] cut k low)
+
+  -- none is zero
+  pub all-nonzero : (cut : List Poly) → IsCut s cut → All (λ h. is_zero (residue_ops s.p) h ≡ false) cut
+  all-nonzero cut is_cut k d low = (element cut is_cut (get_or cut k d) (has_at d cut k low)).nonzero
 
   module _ (h : Poly) (normal : IsNormal (residue_ops s.p) (λ c. nat_lt c s.p) (all_count s) h) (nonzero : IsFalse (is_zero (residue_ops s.p) h)) where
     ordered : IsOrdered o (λ c. nat_lt c s.p) (all_count s) h

@@ -1,8 +1,9 @@
 -- The generators of the action's ideal are written in all variables.
 --   ideal_in             the fact
-use Rattle.std.proofs.Common.{◌≡◌, ℕ, ◌+◌, ◌*◌, ◌≤◌, List, [], ◌∷◌, ◌++◌, ◌&&◌, true, length, length-append, length-replicate, map, replicate, nat_le, nat_lt, refl, ◌∙◌, arith, All, IsTrue}
+use Rattle.std.proofs.Common.{◌≡◌, ℕ, ◌+◌, ◌*◌, ◌≤◌, List, [], ◌∷◌, ◌++◌, ◌&&◌, true, length, length-append, map, replicate, nat_le, nat_lt, refl, ◌∙◌, arith, All, IsTrue}
 use Rattle.std.specs.List.{list_all}
 use Rattle.std.proofs.lemmas.Bool.Decides.{nat_tests}
+use Rattle.std.proofs.lemmas.List.{length-replicate}
 use Rattle.std.proofs.lemmas.List.Elements.{All-nil, All-cons}
 use Rattle.std.proofs.lemmas.List.Folds.{list_all-append}
 use Rattle.rinv_algebra.specs.Residue.{residue_ops}
@@ -33,7 +34,7 @@ behind k v w low (t ∷ f) h =
     let parts = both (nat_le (length t.0) v) (is_in_variables v f) h in
     let e : nat_le (length t.0) v ≡ true = parts.0 in
     let a = length-append (replicate k 0) t.0 in
-    let b : length (replicate k 0) ≡ k = length-replicate k 0 in
+    let b : length {A = ℕ} (replicate k 0) ≡ k = length-replicate k 0 in
     and_true (nat_le (length (replicate k 0 ++ t.0)) w) (is_in_variables w (past k f)) (grind (arith, nat_tests, e, low, a, b)) (behind k v w low f parts.1)
 
 all-more : (v w : ℕ) → v ≤ w → (fs : List Poly) → AreInVariables v fs → AreInVariables w fs

@@ -30,7 +30,7 @@ module _ (s : System) where
   module _ (cut : List Poly) where
     -- those of the first k places
     pub record AreLocalising (places : List ℕ) (k : ℕ) (rs : List Relation) : Type 0 where
-      pub made : AllZip (λ place r. IsMadeOf s (get_or cut place []) r) (take k places) rs
+      pub made : AllZip (λ (place : ℕ) (r : Relation). IsMadeOf s (get_or cut place []) r) (take k places) rs
       pub stored : All (IsStoredRelation s.p (space_count s)) rs
 
     pub localising-start : (places : List ℕ) (rs : List Relation) → rs ≡ [] → AreLocalising places 0 rs
@@ -39,8 +39,8 @@ module _ (s : System) where
     pub localising-more : (places : List ℕ) (k : ℕ) (rs more : List Relation) (place : ℕ) (r : Relation) → AreLocalising places k rs → k < length places → place ≡ get_or places k place → more ≡ rs ++ r ∷ []
         → IsSolved s (get_or cut place []) r → IsStoredRelation s.p (space_count s) r → AreLocalising places (k + 1) more
     localising-more places k rs more place r so_far low here e solved stored = rw e (record {
-      made = subst (λ (ks : List ℕ). AllZip (λ place r. IsMadeOf s (get_or cut place []) r) ks (rs ++ r ∷ [])) (sym (take-at places k place low here))
-          (AllZip-push (λ place r. IsMadeOf s (get_or cut place []) r) (take k places) rs place r so_far.made (made-of (get_or cut place []) r solved));
+      made = subst (λ (ks : List ℕ). AllZip (λ (place : ℕ) (r : Relation). IsMadeOf s (get_or cut place []) r) ks (rs ++ r ∷ [])) (sym (take-at places k place low here))
+          (AllZip-push (λ (place : ℕ) (r : Relation). IsMadeOf s (get_or cut place []) r) (take k places) rs place r so_far.made (made-of (get_or cut place []) r solved));
       stored = All-push (IsStoredRelation s.p (space_count s)) rs r so_far.stored stored;
     })
 
@@ -51,7 +51,7 @@ module _ (s : System) where
         let e : length t.0 ≡ space_count s = (All-head (IsTailTerm s.p (space_count s)) t f h).vars in
         and_true (nat_le (length t.0) (space_count s)) (is_in_variables (space_count s) f) (grind (arith, nat_tests, e)) (in-z f (All-tail (IsTailTerm s.p (space_count s)) t f h))
 
-    each-of : (places : List ℕ) (rs : List Relation) → AllZip (λ place r. IsMadeOf s (get_or cut place []) r) places rs → (k : ℕ) → k < length rs → IsRelationOf s (get_or cut (get_or places k 0) []) (get_or rs k none)
+    each-of : (places : List ℕ) (rs : List Relation) → AllZip (λ (place : ℕ) (r : Relation). IsMadeOf s (get_or cut place []) r) places rs → (k : ℕ) → k < length rs → IsRelationOf s (get_or cut (get_or places k 0) []) (get_or rs k none)
     each-of [] [] h k low = absurd (omega (arith, low))
     each-of [] (r ∷ rs) h k low = absurd h
     each-of (place ∷ places) [] h k low = absurd h
@@ -74,7 +74,7 @@ module _ (s : System) where
       made = whole;
       stored = so_far.stored;
       monic = kept_basis s cut (kept_in_z s cut) rs is_cut (are_kept_places (map (lead_in_z s) cut)) (record {
-        number = sym (length_all_zip (λ place r. IsMadeOf s (get_or cut place []) r) (kept_in_z s cut) rs whole);
+        number = sym (length_all_zip (λ (place : ℕ) (r : Relation). IsMadeOf s (get_or cut place []) r) (kept_in_z s cut) rs whole);
         each = each-of (kept_in_z s cut) rs whole;
         in_variables = fits rs so_far.stored;
         below = below rs so_far.stored;
@@ -84,5 +84,5 @@ module _ (s : System) where
         same : take k places ≡ kept_in_z s cut
         same = take_all k places all ∙ kept ∙ ap kept_places are
 
-        whole : AllZip (λ place r. IsMadeOf s (get_or cut place []) r) (kept_in_z s cut) rs
-        whole = subst (λ (ks : List ℕ). AllZip (λ place r. IsMadeOf s (get_or cut place []) r) ks rs) same so_far.made
+        whole : AllZip (λ (place : ℕ) (r : Relation). IsMadeOf s (get_or cut place []) r) (kept_in_z s cut) rs
+        whole = subst (λ (ks : List ℕ). AllZip (λ (place : ℕ) (r : Relation). IsMadeOf s (get_or cut place []) r) ks rs) same so_far.made

@@ -1,4 +1,4 @@
-use Rattle.std.proofs.Common.{◌≡◌, ◌∙◌, ◌<◌, ◌≤◌, true, false, ℕ, List, length, get_or, take, take_all, sym, ap, subst, arith}
+use Rattle.std.proofs.Common.{◌≡◌, ◌∙◌, ◌<◌, ◌≤◌, true, false, ℕ, List, length, get_or, take, take_all, sym, ap, subst, arith, true≢false}
 use Rattle.std.proofs.lemmas.Bool.Decides.{nat_tests}
 use Rattle.rinv_algebra.specs.Monomial.{same_monomial}
 use Rattle.rinv_defs.specs.System.{Poly, space_count}
@@ -104,4 +104,4 @@ unreachable-requires c =
     let items : c.each.terms.items ≡ z_coefficient s h z = c.each.invariant ∙ ap (λ (f : Poly). z_coefficient s f z) (take_all c.each.mono-index h all) in
     let whole = coefficient-normal s z c.requires.z h c.requires.polynomial c.requires.free in
     let normal = rw c.in-None.is at c.in_ok-made.ensures.normal in
-    absurd (normal.1 (subst (IsPart ring.coeffs ring.vars) (sym items) (part-over ring.coeffs s.p ring.vars (space_count s) (z_coefficient s h z) c.requires.field c.requires.vars whole)))
+    absurd (true≢false (sym (normal.1 (subst (IsPart ring.coeffs ring.vars) (sym items) (part-over ring.coeffs s.p ring.vars (space_count s) (z_coefficient s h z) c.requires.field c.requires.vars whole)))))

@@ -1,4 +1,4 @@
-use Rattle.std.proofs.Common.{◌≡◌, ◌∙◌, ◌<◌, ◌≤◌, ◌∷◌, ◌++◌, [], false, ℕ, List, All, length, map, take, take_all, get_or, nat_lt, refl, sym, ap, subst, arith}
+use Rattle.std.proofs.Common.{◌≡◌, ◌∙◌, ◌<◌, ◌≤◌, ◌∷◌, ◌++◌, [], false, ℕ, List, All, length, map, take, take_all, get_or, nat_lt, refl, sym, ap, subst, arith, true≢false}
 use Rattle.std.proofs.lemmas.List.{length-map, map-append}
 use Rattle.std.proofs.lemmas.List.Elements.{All-nil, All-more}
 use Rattle.rinv_algebra.specs.Residue.{residue_ops}
@@ -27,7 +27,7 @@ unreachable-requires c =
     let many : length m ≡ v = subst (λ (x : List ℕ). length x ≡ v) (sym here) (c.requires.vars k m inside) in
     let normal = rw c.in_default.is at c.in_ok-made.ensures.normal in
     let items : c.in_ok-terms.terms.items ≡ (m, 1) ∷ [] = c.in_ok-terms.ensures.items ∙ ap (λ (x : List ℕ). (x, 1) ∷ []) c.in_ok-copy.ensures in
-    absurd (normal.1 (subst (IsNormal (residue_ops p) (λ x. nat_lt x p) v) (sym items) (single-normal p v c.requires.field m many c.degree-low.ensures.limit)))
+    absurd (true≢false (sym (normal.1 (subst (IsNormal (residue_ops p) (λ x. nat_lt x p) v) (sym items) (single-normal p v c.requires.field m many c.degree-low.ensures.limit)))))
 
 pub each-preserved : goal.each-preserved
 each-preserved c =

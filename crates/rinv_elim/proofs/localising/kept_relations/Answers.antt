@@ -1,4 +1,4 @@
-use Rattle.std.proofs.Common.{◌≡◌, ◌∙◌, ◌<◌, [], false, ℕ, List, All, IsTrue, length, get_or, nat_lt, sym, ap, subst, arith}
+use Rattle.std.proofs.Common.{◌≡◌, ◌∙◌, ◌<◌, ◌≤◌, [], false, ℕ, List, All, IsTrue, length, get_or, nat_lt, sym, ap, subst, arith}
 use Rattle.std.proofs.lemmas.List.{length-map, get_or_default}
 use Rattle.rinv_algebra.specs.Residue.{residue_ops, is_listed}
 use Rattle.rinv_algebra.specs.Normal.{IsNormal}
@@ -30,20 +30,6 @@ kept_in_z-requires-clause-vars c =
 pub places-init : goal.places-init
 places-init c = localising-start c.args.system.now.system c.args.cut.now c.in_ok-places.places.items c.new-relations.result.items c.new-relations.ensures.items
 
-pub index-requires : goal.index-requires
-index-requires c =
-    let s = c.args.system.now.system in
-    let k = c.places.k in
-    let inside : k < length c.in_ok-places.places.items = omega (arith, c.places-test.true, c.len-k-end.ensures, c.in_ok-places.places.ok.0) in
-    let there = c.in_ok-places.ensures.inside k 0 inside in
-    let count = ap (λ (ms : List (List ℕ)). length ms) c.requires.leads ∙ length-map c.args.cut.now (lead_in_z s) in
-    omega (arith, there, count)
-
-pub index-requires-2 : goal.index-requires-2
-index-requires-2 c =
-    let inside : c.places.k < length c.in_ok-places.places.items = omega (arith, c.places-test.true, c.len-k-end.ensures, c.in_ok-places.places.ok.0) in
-    c.in_ok-places.ensures.inside c.places.k 0 inside
-
 pub relation_of-requires-clause-field : goal.relation_of-requires-clause-field
 relation_of-requires-clause-field c = ap (λ r. r.coeffs) c.new-field.ensures ∙ c.new-space_ring.ensures.ring ∙ ap (λ (t : Told). t.system.p) c.system.view_is
 
@@ -56,9 +42,9 @@ relation_of-requires-clause-normal c =
     let cut = c.args.cut.now in
     let leads = c.args.leads.now in
     let k = c.places.k in
-    let place = get_or c.in_ok-places.places.items k 0 in
+    let place = c.index-place.result.now in
     let inside : k < length c.in_ok-places.places.items = omega (arith, c.places-test.true, c.len-k-end.ensures, c.in_ok-places.places.ok.0) in
-    let there : place < length leads = c.in_ok-places.ensures.inside k 0 inside in
+    let there : place < length leads = subst (λ (j : ℕ). j < length leads) (sym c.index-place.ensures) (c.in_ok-places.ensures.inside k place inside) in
     let count = ap (λ (ms : List (List ℕ)). length ms) c.requires.leads ∙ length-map cut (lead_in_z s) in
     let low : place < length cut = omega (arith, there, count) in
     let e = element-at s cut c.requires.cut place low in
@@ -72,9 +58,9 @@ relation_of-requires-clause-nonzero c =
     let cut = c.args.cut.now in
     let leads = c.args.leads.now in
     let k = c.places.k in
-    let place = get_or c.in_ok-places.places.items k 0 in
+    let place = c.index-place.result.now in
     let inside : k < length c.in_ok-places.places.items = omega (arith, c.places-test.true, c.len-k-end.ensures, c.in_ok-places.places.ok.0) in
-    let there : place < length leads = c.in_ok-places.ensures.inside k 0 inside in
+    let there : place < length leads = subst (λ (j : ℕ). j < length leads) (sym c.index-place.ensures) (c.in_ok-places.ensures.inside k place inside) in
     let count = ap (λ (ms : List (List ℕ)). length ms) c.requires.leads ∙ length-map cut (lead_in_z s) in
     let low : place < length cut = omega (arith, there, count) in
     let e = element-at s cut c.requires.cut place low in
@@ -88,9 +74,9 @@ relation_of-requires-clause-free c =
     let cut = c.args.cut.now in
     let leads = c.args.leads.now in
     let k = c.places.k in
-    let place = get_or c.in_ok-places.places.items k 0 in
+    let place = c.index-place.result.now in
     let inside : k < length c.in_ok-places.places.items = omega (arith, c.places-test.true, c.len-k-end.ensures, c.in_ok-places.places.ok.0) in
-    let there : place < length leads = c.in_ok-places.ensures.inside k 0 inside in
+    let there : place < length leads = subst (λ (j : ℕ). j < length leads) (sym c.index-place.ensures) (c.in_ok-places.ensures.inside k place inside) in
     let count = ap (λ (ms : List (List ℕ)). length ms) c.requires.leads ∙ length-map cut (lead_in_z s) in
     let low : place < length cut = omega (arith, there, count) in
     let e = element-at s cut c.requires.cut place low in
@@ -104,9 +90,9 @@ relation_of-requires-clause-lead c =
     let cut = c.args.cut.now in
     let leads = c.args.leads.now in
     let k = c.places.k in
-    let place = get_or c.in_ok-places.places.items k 0 in
+    let place = c.index-place.result.now in
     let inside : k < length c.in_ok-places.places.items = omega (arith, c.places-test.true, c.len-k-end.ensures, c.in_ok-places.places.ok.0) in
-    let there : place < length leads = c.in_ok-places.ensures.inside k 0 inside in
+    let there : place < length leads = subst (λ (j : ℕ). j < length leads) (sym c.index-place.ensures) (c.in_ok-places.ensures.inside k place inside) in
     let count = ap (λ (ms : List (List ℕ)). length ms) c.requires.leads ∙ length-map cut (lead_in_z s) in
     let low : place < length cut = omega (arith, there, count) in
     let e = element-at s cut c.requires.cut place low in
@@ -121,19 +107,19 @@ places-preserved c =
     let cut = c.args.cut.now in
     let leads = c.args.leads.now in
     let k = c.places.k in
-    let place = get_or c.in_ok-places.places.items k 0 in
+    let place = c.index-place.result.now in
     let inside : k < length c.in_ok-places.places.items = omega (arith, c.places-test.true, c.len-k-end.ensures, c.in_ok-places.places.ok.0) in
-    let there : place < length leads = c.in_ok-places.ensures.inside k 0 inside in
+    let there : place < length leads = subst (λ (j : ℕ). j < length leads) (sym c.index-place.ensures) (c.in_ok-places.ensures.inside k place inside) in
     let count = ap (λ (ms : List (List ℕ)). length ms) c.requires.leads ∙ length-map cut (lead_in_z s) in
     let low : place < length cut = omega (arith, there, count) in
     let e = element-at s cut c.requires.cut place low in
     let h = get_or cut place [] in
     let h_is : c.index-cut-place.result ≡ h = c.index-cut-place.is ∙ get_or_default cut place c.index-cut-place.result [] low in
     let r = c.in_ok-relation.relation in
-    localising-more s cut c.in_ok-places.places.items k c.places.relations.items c.push.new.self.items place r c.places.invariant inside (get_or_default c.in_ok-places.places.items k 0 place inside) c.in_ok-push.ensures.items
+    localising-more s cut c.in_ok-places.places.items k c.places.relations.items c.push.new.self.items place r c.places.invariant inside c.index-place.ensures c.in_ok-push.ensures.items
     (subst (λ (g : Poly). IsSolved s g r) h_is c.in_ok-relation.ensures.solved) c.in_ok-relation.ensures.stored
 
 pub returns : goal.returns
 returns c =
-    let all = omega (arith, c.places-test.false, c.len-k-end.ensures, c.in_ok-places.places.ok.0) in
+    let all : length c.in_ok-places.places.items ≤ c.places.k = omega (arith, c.places-test.false, c.len-k-end.ensures, c.in_ok-places.places.ok.0) in
     localising-end c.args.system.now.system c.args.cut.now c.requires.cut c.args.leads.now c.requires.leads c.in_ok-places.places.items c.in_ok-places.ensures.places c.places.k c.places.relations.items all c.places.invariant

@@ -11,12 +11,6 @@ use Rattle.rinv_elim.proofs.RelationFacts.{frees, lead-many}
 use Rattle.rinv_elim.proofs.SpaceElements.{hits, misses, missed-element, lead-at}
 use Rattle.rinv_elim.proofs.localising.missed.Goals as goal
 
-pub index-requires : goal.index-requires
-index-requires c =
-    let s = c.args.system.now.system in
-    let count = ap (λ (ms : List (List ℕ)). length ms) c.requires.leads ∙ length-map c.args.cut.now (lead_in_z s) in
-    omega (arith, c.in-Some.ensures.some.0, count)
-
 pub z_coefficient-requires-clause-field : goal.z_coefficient-requires-clause-field
 z_coefficient-requires-clause-field c = c.new-space_ring.ensures.ring ∙ ap (λ (t : Told). t.system.p) c.system.view_is
 
@@ -69,8 +63,8 @@ z_coefficient-requires-clause-z c =
     let z = c.index-leads-place.result in
     ap (λ (m : List ℕ). length m) (c.index-leads-place.is ∙ get_or_default leads place z [] some.0 ∙ lead-at s cut c.requires.cut leads c.requires.leads place low) ∙ lead-many s h normal e.nonzero e.free
 
-pub returns-in_ok-element-clause-some : goal.returns-in_ok-element-clause-some
-returns-in_ok-element-clause-some c =
+pub returns-in_ok-element-in-Some-clause-some : goal.returns-in_ok-element-in-Some-clause-some
+returns-in_ok-element-in-Some-clause-some c =
     let s = c.args.system.now.system in
     let cut = c.args.cut.now in
     let leads = c.args.leads.now in

@@ -21,7 +21,7 @@ fraction-requires-clause-denominator c = rw c.in_ok-den.ensures c.requires.den
 
 pub unreachable-requires : goal.unreachable-requires
 unreachable-requires c =
-    let none = rw c.in_default.is at c.in_ok-made.ensures.none in
+    let none = rw c.in_default-made.is at c.in_ok-made.ensures.none in
     absurd (true≢false (sym (none.0 refl) ∙ ap (is_zero (residue_ops c.args.field.now.base.coeffs)) c.in_ok-den.ensures ∙ c.requires.nonzero))
 
 pub returns-clause-solved : goal.returns-clause-solved
