@@ -6,7 +6,7 @@ use Rattle.std.proofs.Common.{◌≡◌, ℕ, zero, suc, ◌+◌, ◌<◌, ◌�
 use Rattle.std.specs.List.{AllZip}
 use Rattle.std.specs.declared.cmp.Ordering.TheVariants.{Less}
 use Rattle.std.proofs.lemmas.Bool.Decides.{nat_tests}
-use Rattle.std.proofs.lemmas.List.Elements.{All-nil, All-cons, All-head, All-tail, All-push, AllZip-push, length_all_zip}
+use Rattle.std.proofs.lemmas.List.Elements.{All-nil, All-cons, All-head, All-tail, All-push}
 use Rattle.rinv_algebra.specs.Residue.{residue_ops}
 use Rattle.rinv_algebra.specs.Order.{grevlex}
 use Rattle.rinv_algebra.specs.Normal.{is_in_variables}
@@ -22,6 +22,19 @@ use Rattle.rinv_tails.proofs.Tails.{take-at}
 use Rattle.rinv_elim.specs.Localising.{IsMadeOf, IsSolved, AreLocalised, kept_in_z}
 use Rattle.rinv_elim.proofs.KeptPlaces.{are_kept_places}
 use Rattle.rinv_elim.proofs.MadeRelations.{solved-relation}
+
+-- lists that stand in a relation, place by place
+zip-push : {A B : Type 0} (R : A → B → Type 0) (xs : List A) (ys : List B) (x : A) (y : B) → AllZip R xs ys → R x y → AllZip R (xs ++ x ∷ []) (ys ++ y ∷ [])
+zip-push R [] [] x y h r = (r, tt)
+zip-push R [] (b ∷ ys) x y h r = absurd h
+zip-push R (a ∷ xs) [] x y h r = absurd h
+zip-push R (a ∷ xs) (b ∷ ys) x y h r = (h.0, zip-push R xs ys x y h.1 r)
+
+zip-length : {A B : Type 0} (R : A → B → Type 0) (xs : List A) (ys : List B) → AllZip R xs ys → length ys ≡ length xs
+zip-length R [] [] h = refl
+zip-length R [] (b ∷ ys) h = absurd h
+zip-length R (a ∷ xs) [] h = absurd h
+zip-length R (a ∷ xs) (b ∷ ys) h = ap suc (zip-length R xs ys h.1)
 
 module _ (s : System) where
   pub made-of : (h : Poly) (r : Relation) → IsSolved s h r → IsMadeOf s h r
@@ -40,7 +53,7 @@ module _ (s : System) where
         → IsSolved s (get_or cut place []) r → IsStoredRelation s.p (space_count s) r → AreLocalising places (k + 1) more
     localising-more places k rs more place r so_far low here e solved stored = rw e (record {
       made = subst (λ (ks : List ℕ). AllZip (λ (place : ℕ) (r : Relation). IsMadeOf s (get_or cut place []) r) ks (rs ++ r ∷ [])) (sym (take-at places k place low here))
-          (AllZip-push (λ (place : ℕ) (r : Relation). IsMadeOf s (get_or cut place []) r) (take k places) rs place r so_far.made (made-of (get_or cut place []) r solved));
+          (zip-push (λ (place : ℕ) (r : Relation). IsMadeOf s (get_or cut place []) r) (take k places) rs place r so_far.made (made-of (get_or cut place []) r solved));
       stored = All-push (IsStoredRelation s.p (space_count s)) rs r so_far.stored stored;
     })
 
@@ -74,7 +87,7 @@ module _ (s : System) where
       made = whole;
       stored = so_far.stored;
       monic = kept_basis s cut (kept_in_z s cut) rs is_cut (are_kept_places (map (lead_in_z s) cut)) (record {
-        number = sym (length_all_zip (λ (place : ℕ) (r : Relation). IsMadeOf s (get_or cut place []) r) (kept_in_z s cut) rs whole);
+        number = zip-length (λ (place : ℕ) (r : Relation). IsMadeOf s (get_or cut place []) r) (kept_in_z s cut) rs whole;
         each = each-of (kept_in_z s cut) rs whole;
         in_variables = fits rs so_far.stored;
         below = below rs so_far.stored;

@@ -78,8 +78,8 @@ returns-in_ok-element-in-Some-clause-some c =
     let h_is : c.index-cut-place.result ≡ h = c.index-cut-place.is ∙ get_or_default cut place c.index-cut-place.result [] low in
     let z = c.index-leads-place.result in
     let z_is : z ≡ get_or leads place [] = c.index-leads-place.is ∙ get_or_default leads place z [] some.0 in
-    let value = c.in_ok-element.ensures.value ∙ ap₂ (z_coefficient s) h_is z_is in
-    (misses s cut c.requires.cut leads c.requires.leads place some.0 some.1, missed-element s cut c.requires.cut c.requires.normal leads c.requires.leads place some.0 some.1 c.in-Some.ensures.first c.in_ok-element.element value)
+    let value = c.in_ok-element-in-Some.ensures.value ∙ ap₂ (z_coefficient s) h_is z_is in
+    (misses s cut c.requires.cut leads c.requires.leads place some.0 some.1, missed-element s cut c.requires.cut c.requires.normal leads c.requires.leads place some.0 some.1 c.in-Some.ensures.first c.in_ok-element-in-Some.element value)
 
 pub returns-in-None-clause-none : goal.returns-in-None-clause-none
 returns-in-None-clause-none c = hits c.args.system.now.system c.args.cut.now c.requires.cut c.args.leads.now c.requires.leads c.in-None.ensures.none
