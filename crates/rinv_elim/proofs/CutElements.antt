@@ -3,14 +3,12 @@
 --   IsElement, element, all-nonzero    what is known of an element of the cut
 --   terms-free           none of its terms has a variable that its leading monomial leaves out
 --   lead-term            its leading monomial is that of a term
-use Rattle.std.proofs.Common.{◌≡◌, ℕ, zero, suc, map, ◌+◌, ◌*◌, ◌<◌, ◌≤◌, Bool, true, false, List, [], ◌∷◌, length, sum, take, get_or, nat_lt, refl, sym, ◌∙◌, ap, subst, arith, All, IsTrue}
-use Rattle.std.specs.Prelude.{IsFalse, Contains}
+use Rattle.std.proofs.Common.{◌≡◌, ℕ, suc, map, ◌+◌, ◌*◌, ◌<◌, false, List, [], ◌∷◌, length, sum, take, get_or, nat_lt, refl, sym, ◌∙◌, subst, arith, All, IsTrue}
+use Rattle.std.specs.Prelude.{IsFalse}
 use Rattle.std.proofs.lemmas.List.Elements.{Contains-get_or}
 use Rattle.std.specs.Ordering.{is_ge}
-use Rattle.rinv_algebra.specs.Ring.{RingLaws, RingOps}
+use Rattle.rinv_algebra.specs.Ring.{RingOps}
 use Rattle.rinv_algebra.specs.Residue.{residue_ops}
-use Rattle.rinv_algebra.specs.Monomial.{same_monomial}
-use Rattle.rinv_algebra.specs.Order.{block_order}
 use Rattle.rinv_algebra.specs.Polynomial.{Term, is_zero, has_monomial}
 use Rattle.rinv_algebra.specs.Ideal.{IsMember}
 use Rattle.rinv_algebra.specs.Normal.{IsNormal}
@@ -19,9 +17,8 @@ use Rattle.rinv_algebra.proofs.ResidueField.{residue_field_laws}
 use Rattle.rinv_algebra.proofs.ResidueLaws.{residue_laws}
 use Rattle.rinv_groebner.specs.Elimination.{is_free, Eliminates, free_part}
 use Rattle.rinv_groebner.specs.Orders.{OrdersMonomials}
-use Rattle.rinv_groebner.proofs.Ascending.{Has, split, has_at}
+use Rattle.rinv_groebner.proofs.Ascending.{Has, has_at}
 use Rattle.rinv_groebner.proofs.BlockElimination.{blocks_eliminate}
-use Rattle.rinv_groebner.proofs.EliminationLists.{free_lead}
 use Rattle.rinv_groebner.proofs.Greatest.{filter-passes}
 use Rattle.rinv_groebner.proofs.IdealBases.{all_has}
 use Rattle.rinv_groebner.proofs.KnownOrders.{blocks_order}

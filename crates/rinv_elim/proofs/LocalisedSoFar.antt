@@ -2,20 +2,18 @@
 --   made-of              the relation of an element
 --   AreLocalising        those of the first places
 --   localising-start, localising-more, localising-end    none, one more, all
-use Rattle.std.proofs.Common.{◌≡◌, ℕ, zero, suc, ◌+◌, ◌<◌, ◌≤◌, List, [], ◌∷◌, ◌++◌, length, map, take, take_all, get_or, nat_le, nat_lt, refl, sym, ◌∙◌, ap, subst, arith, All, IsTrue}
+use Rattle.std.proofs.Common.{◌≡◌, ℕ, zero, suc, ◌+◌, ◌<◌, ◌≤◌, List, [], ◌∷◌, ◌++◌, length, map, take, take_all, get_or, nat_le, refl, sym, ◌∙◌, ap, subst, arith, All, IsTrue}
 use Rattle.std.specs.List.{AllZip}
 use Rattle.std.specs.declared.cmp.Ordering.TheVariants.{Less}
 use Rattle.std.proofs.lemmas.Bool.Decides.{nat_tests}
 use Rattle.std.proofs.lemmas.List.Elements.{All-nil, All-cons, All-head, All-tail, All-push}
-use Rattle.rinv_algebra.specs.Residue.{residue_ops}
 use Rattle.rinv_algebra.specs.Order.{grevlex}
 use Rattle.rinv_algebra.specs.Normal.{is_in_variables}
 use Rattle.rinv_algebra.proofs.Same.{and_true}
 use Rattle.rinv_defs.specs.System.{System, Poly, space_count}
-use Rattle.rinv_defs.specs.Invariant.{Fraction}
 use Rattle.rinv_defs.specs.Extended.{Relation, FractionPoly}
 use Rattle.rinv_buch.specs.Reducing.{kept_places}
-use Rattle.rinv_reduction.specs.Localised.{IsCut, lead_in_z, IsRelationOf, AreRelationsOf, none}
+use Rattle.rinv_reduction.specs.Localised.{IsCut, lead_in_z, IsRelationOf, none}
 use Rattle.rinv_reduction.proofs.KeptRelations.{kept_basis}
 use Rattle.rinv_tails.specs.Stored.{IsTailTerm, IsStoredRelation}
 use Rattle.rinv_tails.proofs.Tails.{take-at}

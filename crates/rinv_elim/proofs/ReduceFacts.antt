@@ -3,7 +3,7 @@
 --   ascending-leads      its leads ascend
 --   stops-at             where degrees are met
 use Rattle.std.proofs.Common.{◌≡◌, ℕ, zero, suc, ◌<◌, List, [], ◌∷◌, length, get_or, refl, sym, ap, ◌∙◌, subst, subst₂, arith}
-use Rattle.std.specs.Prelude.{All, AllPairs}
+use Rattle.std.specs.Prelude.{All}
 use Rattle.std.specs.declared.cmp.Ordering.TheVariants.{Less}
 use Rattle.rinv_algebra.specs.Order.{grevlex}
 use Rattle.rinv_ring.specs.Fault.{DegreesMeet}

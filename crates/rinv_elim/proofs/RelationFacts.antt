@@ -1,7 +1,7 @@
 -- What the making of an element's relation rests on.
 --   frees, lead-many, lead-low, divisor-nonzero    of the element and its leading monomial
 --   term-many, z-many, z-under, tail-term          of one of its terms
-use Rattle.std.proofs.Common.{◌≡◌, ℕ, ◌<◌, ◌≤◌, false, List, [], ◌∷◌, length, map, get_or, nat_lt, sym, ◌∙◌, ap, subst, arith, All, IsTrue}
+use Rattle.std.proofs.Common.{◌≡◌, ℕ, ◌<◌, ◌≤◌, false, List, [], length, map, get_or, nat_lt, sym, ◌∙◌, ap, subst, arith, All, IsTrue}
 use Rattle.std.specs.Prelude.{IsFalse}
 use Rattle.std.proofs.lemmas.List.{length-map, get_or_default}
 use Rattle.std.specs.declared.cmp.Ordering.TheVariants.{Less}

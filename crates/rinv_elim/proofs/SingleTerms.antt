@@ -2,7 +2,7 @@
 --   single-normal, single-nonzero, single-lead    a monomial with the coefficient 1
 --   singles-normal, singles-nonzero, singles-leads    lists of such
 --   same-divides         two monomials that divide one another are the same
-use Rattle.std.proofs.Common.{◌≡◌, ℕ, ◌+◌, ◌<◌, ◌≤◌, Bool, true, false, not, ◌&&◌, ◌==◌, List, [], ◌∷◌, length, map, nat_lt, nat_le, refl, sym, ◌∙◌, ap, ap₂, subst, inl, inr, arith, All, IsTrue, true≢false}
+use Rattle.std.proofs.Common.{◌≡◌, ℕ, ◌≤◌, false, ◌&&◌, List, [], ◌∷◌, length, map, nat_lt, refl, sym, ◌∙◌, ap, ap₂, inl, inr, arith, All, IsTrue}
 use Rattle.std.proofs.lemmas.Bool.{cases_Bool}
 use Rattle.std.proofs.lemmas.Bool.Decides.{nat_tests}
 use Rattle.std.proofs.lemmas.List.Elements.{All-nil, All-cons, All-head, All-tail}
@@ -19,7 +19,7 @@ use Rattle.rinv_algebra.proofs.ResidueLaws.{residue_laws}
 use Rattle.rinv_groebner.proofs.Ascending.{Has, split}
 use Rattle.rinv_groebner.proofs.LeadingMonomials.{leading_monomial-leads, present}
 use Rattle.rinv_defs.specs.System.{Poly}
-use Rattle.rinv_poly.proofs.Forms.{IsNormalTerm, IsOrdered, ordered-from_normal, normal-from_ordered}
+use Rattle.rinv_poly.proofs.Forms.{IsNormalTerm, IsOrdered, normal-from_ordered}
 use Rattle.rinv_poly.proofs.NormalFacts.{zero-normal}
 use Rattle.rinv_div.proofs.Leads.{lead-vars}
 

@@ -5,8 +5,8 @@
 --   IsSolving            the terms of the element so far
 --   solving-start, solving-passed, solving-more    none yet; a term whose monomial in Z came before, or is the lead; a new one
 --   solved-sorted, stored-sorted    the relation, its terms from the greatest down
-use Rattle.std.proofs.Common.{◌≡◌, ℕ, zero, suc, ◌+◌, ◌*◌, ◌<◌, ◌≤◌, Bool, true, false, not, cond, List, [], ◌∷◌, ◌++◌, append-nil, length, map, take, take_all, drop, get_or, nat_lt, refl, sym, ◌∙◌, ap, subst, inl, inr, arith, All, AllPairs, IsTrue, true≢false}
-use Rattle.std.specs.Prelude.{IsFalse, Contains}
+use Rattle.std.proofs.Common.{◌≡◌, ℕ, suc, ◌+◌, ◌<◌, ◌≤◌, Bool, true, false, cond, List, [], ◌∷◌, ◌++◌, length, take, take_all, drop, get_or, nat_lt, refl, sym, ◌∙◌, ap, subst, inl, inr, arith, All, AllPairs, IsTrue, true≢false}
+use Rattle.std.specs.Prelude.{IsFalse}
 use Rattle.std.specs.List.{list_any}
 use Rattle.std.proofs.lemmas.List.Kept.{AllPairs-cons}
 use Rattle.std.specs.List.Sorted.{IsPermutation, IsSortedBy}
@@ -14,8 +14,7 @@ use Rattle.std.specs.Ordering.{is_ge, is_lt, ordering_reverse}
 use Rattle.std.specs.declared.cmp.Ordering.{Ordering}
 use Rattle.std.specs.declared.cmp.Ordering.TheVariants.{Less, Equal, Greater}
 use Rattle.std.proofs.lemmas.Bool.{cases_Bool, eqb-true}
-use Rattle.std.proofs.lemmas.Cmp.{tied_itself}
-use Rattle.std.proofs.lemmas.List.Elements.{All-nil, All-cons, All-head, All-tail, All-push}
+use Rattle.std.proofs.lemmas.List.Elements.{All-nil, All-cons, All-head, All-push}
 use Rattle.std.proofs.lemmas.List.Folds.{list_any_at}
 use Rattle.std.proofs.lemmas.List.Sorted.{All-permutation, IsPermutation-sym, IsStrictWeakOrder-flip, ranks_by, sorted_far}
 use Rattle.rinv_algebra.specs.Ring.{IsSame}
@@ -26,7 +25,7 @@ use Rattle.rinv_algebra.specs.Polynomial.{Term, poly_ops, is_zero, opposite, dif
 use Rattle.rinv_algebra.specs.Normal.{IsNormal}
 use Rattle.rinv_algebra.specs.Fraction.{fraction_ops}
 use Rattle.rinv_algebra.proofs.Grevlex.{grevlex_laws, grevlex_ties}
-use Rattle.rinv_algebra.proofs.MonomialLaws.{same_monomial_refl, same_monomial_sym, same_monomial_trans, same_monomial-left, same_monomial-right, same_monomial-of_length}
+use Rattle.rinv_algebra.proofs.MonomialLaws.{same_monomial_refl, same_monomial_sym, same_monomial_trans}
 use Rattle.rinv_algebra.proofs.PolynomialLaws.{poly_laws}
 use Rattle.rinv_algebra.proofs.ResidueField.{residue_field_laws}
 use Rattle.rinv_algebra.proofs.ResidueLaws.{residue_laws}
@@ -39,9 +38,8 @@ use Rattle.rinv_defs.specs.System.{System, Poly, group_count, space_count}
 use Rattle.rinv_defs.specs.Invariant.{Fraction}
 use Rattle.rinv_defs.specs.PairConditions.{leading, action_order}
 use Rattle.rinv_defs.specs.RelationConditions.{z_part}
-use Rattle.rinv_defs.specs.Extended.{Relation, FractionPoly}
+use Rattle.rinv_defs.specs.Extended.{FractionPoly}
 use Rattle.rinv_frac.specs.Cancelling.{IsCancelled}
-use Rattle.rinv_frac.specs.Fractions.{IsStored}
 use Rattle.rinv_frac.proofs.CancelledValues.{cancelled-value, cancelled-same}
 use Rattle.rinv_frac.proofs.Values.{zero-value}
 use Rattle.rinv_poly.proofs.DistinctTerms.{distinct-permuted, distinct-at}
@@ -49,7 +47,7 @@ use Rattle.rinv_poly.proofs.NormalFacts.{zero-nil}
 use Rattle.rinv_div.proofs.DistinctFalls.{pairs-distinct}
 use Rattle.rinv_reduction.specs.Localised.{all_count, lead_in_z, z_coefficient}
 use Rattle.rinv_reduction.proofs.Ties.{grevlex_one, second_block}
-use Rattle.rinv_tails.specs.Stored.{IsTailTerm, IsTail, IsStoredRelation}
+use Rattle.rinv_tails.specs.Stored.{IsTailTerm, IsStoredRelation}
 use Rattle.rinv_tails.proofs.Tails.{all-left, all-right}
 use Rattle.rinv_elim.specs.Localising.{IsSolution, IsSolved}
 use Rattle.rinv_elim.proofs.CutElements.{term-bounded}

@@ -3,14 +3,13 @@
 --   hits, misses         whether the section misses the orbits
 --   missed-element       the first such element
 --   coefficient-nonzero  the coefficient of a monomial in Z that a term has
-use Rattle.std.proofs.Common.{◌≡◌, ℕ, zero, suc, ◌+◌, ◌*◌, ◌<◌, ◌≤◌, Bool, true, false, not, cond, List, [], ◌∷◌, ◌++◌, length, length-take, length-drop, map, filter, take, drop, take-append-drop, get_or, replicate, sum, nat_lt, refl, sym, ◌∙◌, ap, ap₂, subst, inl, inr, arith, All, IsTrue, true≢false}
+use Rattle.std.proofs.Common.{◌≡◌, ℕ, zero, suc, ◌+◌, ◌<◌, Bool, true, false, not, cond, List, [], ◌∷◌, ◌++◌, length, length-take, length-drop, map, filter, take, drop, take-append-drop, get_or, replicate, sum, nat_lt, refl, sym, ◌∙◌, ap, ap₂, subst, inl, inr, arith, All, IsTrue, true≢false}
 use Rattle.std.specs.Prelude.{IsFalse, ◌==◌}
-use Rattle.std.specs.List.{list_any}
 use Rattle.std.proofs.lemmas.Bool.{eqb-true, cases_Bool}
 use Rattle.std.proofs.lemmas.Bool.Decides.{nat_tests}
-use Rattle.std.proofs.lemmas.List.{length-map, get_or-map, get_or-take, drop-drop}
-use Rattle.std.proofs.lemmas.List.Elements.{All-nil, All-cons, All-head, All-tail, All-contains}
-use Rattle.std.proofs.lemmas.List.Folds.{list_any_at, list_any_none}
+use Rattle.std.proofs.lemmas.List.{length-map, get_or-map, get_or-take}
+use Rattle.std.proofs.lemmas.List.Elements.{All-head, All-tail}
+use Rattle.std.proofs.lemmas.List.Folds.{list_any_at}
 use Rattle.std.proofs.lemmas.List.Sums.{sum_by-cons}
 use Rattle.rinv_algebra.specs.Residue.{residue_ops}
 use Rattle.rinv_algebra.specs.Monomial.{same_monomial, total_degree}

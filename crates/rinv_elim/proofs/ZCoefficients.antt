@@ -4,20 +4,18 @@
 --   term-length, z-length    exponents of a term, and its monomial in Z
 --   same-front           terms with one monomial in Z agree in all variables but the space's
 --   coefficient-ordered, coefficient-normal    it is a polynomial in normal form
-use Rattle.std.proofs.Common.{◌≡◌, ℕ, zero, suc, ◌+◌, ◌*◌, ◌≤◌, ◌<◌, Bool, true, false, cond, List, [], ◌∷◌, ◌++◌, append-nil, length, length-take, length-drop, map, filter, take, drop, get_or, replicate, sum, nat_lt, refl, sym, ◌∙◌, ap, subst, arith, All, AllPairs, IsTrue}
-use Rattle.std.specs.Prelude.{◌==◌}
+use Rattle.std.proofs.Common.{◌≡◌, ℕ, zero, suc, ◌+◌, ◌≤◌, ◌<◌, Bool, true, false, cond, List, [], ◌∷◌, ◌++◌, append-nil, length, length-take, length-drop, map, filter, take, drop, get_or, replicate, sum, nat_lt, refl, sym, ◌∙◌, ap, subst, arith, All, IsTrue}
 use Rattle.std.specs.Cmp.{nat_cmp_is}
 use Rattle.std.specs.Ordering.{nat_cmp, ordering_then}
 use Rattle.std.specs.declared.cmp.Ordering.{Ordering}
 use Rattle.std.specs.declared.cmp.Ordering.TheVariants.{Less, Equal}
 use Rattle.std.proofs.lemmas.Bool.{eqb-true}
-use Rattle.std.proofs.lemmas.List.{map-append, drop-drop}
+use Rattle.std.proofs.lemmas.List.{drop-drop}
 use Rattle.std.proofs.lemmas.List.Elements.{All-nil, All-cons, All-head, All-tail}
 use Rattle.std.proofs.lemmas.List.Kept.{AllPairs-cons}
 use Rattle.std.proofs.lemmas.List.Sums.{sum_by-cons}
-use Rattle.rinv_algebra.specs.Ring.{RingOps}
 use Rattle.rinv_algebra.specs.Residue.{residue_ops}
-use Rattle.rinv_algebra.specs.Monomial.{same_monomial, total_degree, max_degree}
+use Rattle.rinv_algebra.specs.Monomial.{same_monomial, total_degree}
 use Rattle.rinv_algebra.specs.Normal.{IsNormal}
 use Rattle.rinv_algebra.specs.Order.{lex}
 use Rattle.rinv_algebra.specs.Polynomial.{Term}
@@ -25,7 +23,7 @@ use Rattle.rinv_algebra.proofs.MonomialLaws.{same_monomial-of_length}
 use Rattle.rinv_groebner.specs.Elimination.{is_free}
 use Rattle.rinv_defs.specs.System.{System, Poly, group_count, space_count}
 use Rattle.rinv_defs.specs.RelationConditions.{z_part}
-use Rattle.rinv_poly.proofs.Forms.{IsNormalTerm, IsOrdered, IsDescending, Below, ordered-from_normal, normal-from_ordered, ordered-nil, descending-head, descending-tail}
+use Rattle.rinv_poly.proofs.Forms.{IsNormalTerm, IsOrdered, Below, ordered-from_normal, normal-from_ordered, ordered-nil, descending-head, descending-tail}
 use Rattle.rinv_tails.proofs.Tails.{take-at}
 use Rattle.rinv_reduction.specs.Localised.{all_count, z_coefficient}
 

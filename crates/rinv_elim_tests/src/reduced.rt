@@ -35,6 +35,14 @@ const SHIFTS: &[u8] =
 const EXCHANGES: &[u8] =
     b"field 7\ngroup a\nspace x, y\nideal a^2-1\nunit 1\nproduct a*a'\ninverse a\naction 4*(1+a)*x+4*(1-a)*y, 4*(1-a)*x+4*(1+a)*y\n";
 
+// The matrices of determinant 1, on binary quadratics.
+const QUADRATICS: &[u8] =
+    b"field 32003\ngroup a, b, c, d\nspace u, v, w\nideal a*d-b*c-1\nunit 1, 0, 0, 1\nproduct a*a'+b*c', a*b'+b*d', c*a'+d*c', c*b'+d*d'\ninverse d, -b, -c, a\naction a^2*u+a*b*v+b^2*w, 2*a*c*u+(a*d+b*c)*v+2*b*d*w, c^2*u+c*d*v+d^2*w\n";
+
+// Rigid motions of two points of the plane.
+const MOTIONS: &[u8] =
+    b"field 101\ngroup a, b, c, d\nspace u, v, s, t\nideal a^2+b^2-1\nunit 1, 0, 0, 0\nproduct a*a'-b*b', a*b'+b*a', a*c'-b*d'+c, b*c'+a*d'+d\ninverse a, -b, -a*c-b*d, b*c-a*d\naction a*u-b*v+c, b*u+a*v+d, a*s-b*t+c, b*s+a*t+d\n";
+
 // A lead, and terms with their numerators and denominators.
 type Row<'a> = (&'a [u32], &'a [(&'a [u32], &'a str, &'a str)]);
 
@@ -55,6 +63,23 @@ const OF_EXCHANGES: &[Row] = &[
     (&[1, 0], &[(&[0, 1], "-1", "1"), (&[0, 0], "x+y", "1")]),
     (&[0, 2], &[(&[0, 1], "x+y", "1"), (&[0, 0], "-x*y", "1")]),
 ];
+
+const OF_QUADRATICS: &[Row] = &[(
+    &[0, 2, 0],
+    &[(&[1, 0, 1], "4", "1"), (&[0, 0, 0], "v^2-4*u*w", "1")],
+)];
+
+const OF_MOTIONS: &[Row] = &[(
+    &[2, 0, 0, 0],
+    &[
+        (&[0, 2, 0, 0], "-1", "1"),
+        (&[1, 0, 1, 0], "2", "1"),
+        (&[0, 0, 2, 0], "-1", "1"),
+        (&[0, 1, 0, 1], "2", "1"),
+        (&[0, 0, 0, 2], "-1", "1"),
+        (&[0, 0, 0, 0], "(u-s)^2+(v-t)^2", "1"),
+    ],
+)];
 
 // x = 0 and y stays.
 const ON_SECTION: &[Row] = &[(&[0, 1], &[(&[0, 0], "y", "1")]), (&[1, 0], &[])];
@@ -237,5 +262,27 @@ fn tells_a_section_that_misses_orbits(rt: HostRuntime) {
     assert!(rt;
         misses_by(rt.alloc(), TRANSLATIONS, "y-1", "y-1"),
         "y = 1 misses most orbits"
+    );
+}
+
+#[test]
+fn makes_the_reduced_basis_of_larger_groups(rt: HostRuntime) {
+    for (text, rows) in [(QUADRATICS, OF_QUADRATICS), (MOTIONS, OF_MOTIONS)] {
+        assert!(rt;
+            has_basis(rt.alloc(), text, rows),
+            "one invariant gives the one relation"
+        );
+    }
+}
+
+#[test]
+fn stops_where_the_budget_ends(rt: HostRuntime) {
+    assert!(rt;
+        stops_with(rt.alloc(), ROTATIONS, 0, 1000),
+        "no pair may be taken"
+    );
+    assert!(rt;
+        stops_with(rt.alloc(), ROTATIONS, 1000, 0),
+        "no step may be made"
     );
 }

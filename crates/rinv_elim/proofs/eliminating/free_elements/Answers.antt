@@ -1,4 +1,4 @@
-use Rattle.std.proofs.Common.{◌≡◌, ◌∙◌, false, true, Bool, List, length, get_or, take_all, filter, nat_lt, sym, ap, subst, arith}
+use Rattle.std.proofs.Common.{◌≡◌, ◌∙◌, false, true, Bool, take_all, filter, nat_lt, sym, ap, subst, arith}
 use Rattle.std.proofs.lemmas.Bool.Decides.{nat_tests}
 use Rattle.rinv_algebra.specs.BlockEnds.{sizes_from}
 use Rattle.rinv_algebra.specs.Leading.{leading_monomial}

@@ -1,4 +1,4 @@
-use Rattle.std.proofs.Common.{◌≡◌, ◌∙◌, ◌<◌, ◌≤◌, ◌∷◌, ◌++◌, [], false, ℕ, List, All, length, map, take, take_all, get_or, nat_lt, refl, sym, ap, subst, arith, true≢false}
+use Rattle.std.proofs.Common.{◌≡◌, ◌∙◌, ◌<◌, ◌≤◌, ◌∷◌, ◌++◌, [], false, ℕ, List, All, length, map, take, take_all, get_or, nat_lt, sym, ap, subst, true≢false}
 use Rattle.std.proofs.lemmas.List.{length-map, map-append}
 use Rattle.std.proofs.lemmas.List.Elements.{All-nil, All-more}
 use Rattle.rinv_algebra.specs.Residue.{residue_ops}

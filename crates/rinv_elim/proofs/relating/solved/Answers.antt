@@ -1,4 +1,4 @@
-use Rattle.std.proofs.Common.{◌≡◌, ◌∙◌, refl, sym, ap, subst, true≢false}
+use Rattle.std.proofs.Common.{◌∙◌, refl, sym, ap, true≢false}
 use Rattle.rinv_algebra.specs.Residue.{residue_ops}
 use Rattle.rinv_algebra.specs.Polynomial.{is_zero}
 use Rattle.rinv_elim.proofs.Solving.{solved-pair}
