@@ -1,5 +1,6 @@
 //! Systems, and the reduced bases of their extended ideals.
 
+use rinv_buch::{Stop, Why};
 use rinv_div::Budget;
 use rinv_elim::{ElimStop, action_basis, eliminate, localise, reduce};
 use rinv_frac::FracRing;
@@ -175,23 +176,25 @@ fn has_basis(alloc: Global, text: &[u8], rows: &[Row]) -> bool {
     }
 }
 
-// The system of a text, with a polynomial for its section.
-fn system_on(alloc: Global, text: &[u8], section: &str) -> Option<System> {
-    if section.len() > 10_000 {
-        return None;
-    }
+// The system of a text, with polynomials for its section.
+fn system_on(alloc: Global, text: &[u8], section: &[&str]) -> Option<System> {
     let mut system = system_of(alloc, text)?;
-    let Ok(f) = read_poly(alloc, section, &system.space, &system.field) else {
-        return None;
-    };
-    match system.section.push(f) {
-        Ok(()) => Some(system),
-        Err(_) => None,
+    for k in 0..section.len() {
+        if section[k].len() > 10_000 {
+            return None;
+        }
+        let Ok(f) = read_poly(alloc, section[k], &system.space, &system.field) else {
+            return None;
+        };
+        if system.section.push(f).is_err() {
+            return None;
+        }
     }
+    Some(system)
 }
 
 // Whether its reduced basis is this on the section.
-fn has_basis_on(alloc: Global, text: &[u8], section: &str, rows: &[Row]) -> bool {
+fn has_basis_on(alloc: Global, text: &[u8], section: &[&str], rows: &[Row]) -> bool {
     match system_on(alloc, text, section) {
         Some(system) => is_basis(alloc, &system, rows),
         None => false,
@@ -199,7 +202,7 @@ fn has_basis_on(alloc: Global, text: &[u8], section: &str, rows: &[Row]) -> bool
 }
 
 // Whether the section misses the orbits, by this element.
-fn misses_by(alloc: Global, text: &[u8], section: &str, wanted: &str) -> bool {
+fn misses_by(alloc: Global, text: &[u8], section: &[&str], wanted: &str) -> bool {
     let Some(system) = system_on(alloc, text, section) else {
         return false;
     };
@@ -249,10 +252,33 @@ fn makes_the_reduced_basis(rt: HostRuntime) {
     }
 }
 
+// What stops the run on the system with this budget: a pair, a step, or neither.
+fn stopped_by(alloc: Global, text: &[u8], pairs: u32, steps: u64) -> u32 {
+    let Some(system) = system_of(alloc, text) else {
+        return 3;
+    };
+    let mut budget = Budget {
+        pairs,
+        steps,
+        pairs_spent: 0,
+        steps_spent: 0,
+        endless: false,
+    };
+    match action_basis(alloc, &system, &mut budget) {
+        Err(Stop::Incomplete(halt)) => match halt.why {
+            Why::Pairs { .. } => 1,
+            Why::Steps { .. } => 2,
+            Why::Degree { .. } => 3,
+        },
+        Err(_) => 3,
+        Ok(_) => 0,
+    }
+}
+
 #[test]
 fn cuts_orbits_by_a_section(rt: HostRuntime) {
     assert!(rt;
-        has_basis_on(rt.alloc(), TRANSLATIONS, "x", ON_SECTION),
+        has_basis_on(rt.alloc(), TRANSLATIONS, &["x"], ON_SECTION),
         "x = 0 meets each orbit once"
     );
 }
@@ -260,8 +286,16 @@ fn cuts_orbits_by_a_section(rt: HostRuntime) {
 #[test]
 fn tells_a_section_that_misses_orbits(rt: HostRuntime) {
     assert!(rt;
-        misses_by(rt.alloc(), TRANSLATIONS, "y-1", "y-1"),
+        misses_by(rt.alloc(), TRANSLATIONS, &["y-1"], "y-1"),
         "y = 1 misses most orbits"
+    );
+    assert!(rt;
+        misses_by(rt.alloc(), TRANSLATIONS, &["y"], "y"),
+        "so does y = 0"
+    );
+    assert!(rt;
+        misses_by(rt.alloc(), SCALINGS, &["x-1", "x-2"], "1"),
+        "and an empty section misses them all"
     );
 }
 
@@ -277,12 +311,19 @@ fn makes_the_reduced_basis_of_larger_groups(rt: HostRuntime) {
 
 #[test]
 fn stops_where_the_budget_ends(rt: HostRuntime) {
-    assert!(rt;
-        stops_with(rt.alloc(), ROTATIONS, 0, 1000),
+    assert_eq!(rt;
+        stopped_by(rt.alloc(), ROTATIONS, 0, 1000),
+        1,
         "no pair may be taken"
     );
-    assert!(rt;
-        stops_with(rt.alloc(), ROTATIONS, 1000, 0),
+    assert_eq!(rt;
+        stopped_by(rt.alloc(), ROTATIONS, 1000, 0),
+        2,
         "no step may be made"
+    );
+    assert_eq!(rt;
+        stopped_by(rt.alloc(), ROTATIONS, 1000, 1000),
+        0,
+        "and this is enough"
     );
 }
