@@ -1,31 +1,28 @@
 -- A reduced basis of the free elements, and the elements of a reduced basis of the whole ideal that are not free, are together one of the
 -- whole ideal.
 --   joined-basis         the fact
-use Rattle.std.proofs.Common.{◌≡◌, ◌⊎◌, ℕ, ◌<◌, Bool, true, false, not, ◌==◌, List, [], ◌∷◌, ◌++◌, length, get_or, filter, refl, sym, ◌∙◌, ap, subst, inl, inr, arith, IsTrue, true≢false, AllPairs}
+use Rattle.std.proofs.Common.{◌≡◌, ◌⊎◌, ℕ, ◌<◌, Bool, true, false, not, ◌==◌, List, [], ◌++◌, length, get_or, filter, refl, sym, ◌∙◌, ap, subst, inl, inr, arith, IsTrue, true≢false, AllPairs}
 use Rattle.std.specs.Prelude.{IsFalse}
-use Rattle.std.specs.List.{list_all}
 use Rattle.std.specs.Ordering.{is_ge, ordering_reverse}
 use Rattle.std.specs.declared.cmp.Ordering.{Ordering}
 use Rattle.std.specs.declared.cmp.Ordering.TheVariants.{Less, Equal, Greater}
 use Rattle.std.proofs.lemmas.Bool.{eqb-true, cases_order}
-use Rattle.std.proofs.lemmas.Bool.Decides.{nat_tests}
 use Rattle.std.proofs.lemmas.Cmp.{tied_itself}
 use Rattle.std.proofs.lemmas.List.{get_or_default}
-use Rattle.std.proofs.lemmas.List.Kept.{AllPairs-cons, AllPairs-filter}
+use Rattle.std.proofs.lemmas.List.Kept.{AllPairs-filter}
 use Rattle.rinv_algebra.specs.Ring.{RingOps, RingLaws, FieldLaws, IsSame}
 use Rattle.rinv_algebra.specs.Polynomial.{Polynomial, has_monomial, is_zero}
 use Rattle.rinv_algebra.specs.Normal.{is_in_variables}
 use Rattle.rinv_algebra.specs.Ideal.{IsMember}
 use Rattle.rinv_algebra.specs.Leading.{leading_monomial, leading_coefficient}
-use Rattle.rinv_algebra.proofs.Same.{both, and_true}
 use Rattle.rinv_theory.proofs.Monoid.{monomial, monomials}
 use Rattle.rinv_theory.proofs.Variables.{IsFront, in_variables-of}
 use Rattle.rinv_groebner.specs.Orders.{OrdersMonomials, AreInVariables}
 use Rattle.rinv_groebner.specs.Division.{lead_divides, is_reducible}
 use Rattle.rinv_groebner.specs.Basis.{AreMembers, AreNonzero, IsGroebnerBasis}
 use Rattle.rinv_groebner.specs.Elimination.{is_free, Eliminates, free_part, IsEliminationBasis}
-use Rattle.rinv_groebner.specs.Reduced.{IsReducedGroebnerBasis, AreApart, AreMonic, Ascend}
-use Rattle.rinv_groebner.proofs.Ascending.{Has, split, has_at, place_of}
+use Rattle.rinv_groebner.specs.Reduced.{IsReducedGroebnerBasis, AreMonic, Ascend}
+use Rattle.rinv_groebner.proofs.Ascending.{Has, has_at, place_of}
 use Rattle.rinv_groebner.proofs.Compared.{all_monomials, has_front, below_less}
 use Rattle.rinv_groebner.proofs.EliminationLists.{divides-free, free_lead}
 use Rattle.rinv_groebner.proofs.Generates.{generates, own_members}
@@ -33,89 +30,20 @@ use Rattle.rinv_groebner.proofs.Greatest.{has-filter, filter-passes}
 use Rattle.rinv_groebner.proofs.IdealBases.{all_from, all_has, AreDivided}
 use Rattle.rinv_groebner.proofs.LeadingMonomials.{leading_monomial-leads}
 use Rattle.rinv_groebner.proofs.ListElements.{AllFirst, all_first}
-use Rattle.rinv_groebner.proofs.MonomialLists.{divides-divisor, divisor-divides, divisor_trans}
+use Rattle.rinv_groebner.proofs.MonomialLists.{divisor-divides}
 use Rattle.rinv_groebner.proofs.ReducedLists.{members_trans, monic-nonzero}
-use Rattle.rinv_groebner.proofs.Reducible.{divides-parts, parts_divide, first_divisor, divisor_reducible}
+use Rattle.rinv_groebner.proofs.Reducible.{divides-parts, parts_divide}
 use Rattle.rinv_cut.proofs.FreeBasis.{list-has, part, free_nonzero, free-basis}
-use Rattle.rinv_cut.proofs.Sorted.{all-from_has, first-to, pairs-rest, sorted, sorted-has, has-sorted, sorted-ascends}
+use Rattle.rinv_cut.proofs.Sorted.{sorted, sorted-has, has-sorted, sorted-ascends}
 use Rattle.rinv_cut.proofs.Written.{written-basis}
-
--- ---- lists
-
-differ : (i j : ℕ) → (i == j) ≡ false → i ≡ j → ⊥
-differ i j e q = grind (arith, nat_tests, e, q)
-
-has-append : {X : Type 0} (xs ys : List X) {z : X} → Has z (xs ++ ys) → Has z xs ⊎ Has z ys
-has-append [] ys h = inr h
-has-append {X} (x ∷ xs) ys {z} h = go (split h) (λ k. has-append xs ys k)
-  where
-    later : Has z xs ⊎ Has z ys → Has z (x ∷ xs) ⊎ Has z ys
-    later (inl k) = inl (Has.later k)
-    later (inr k) = inr k
-
-    go : (z ≡ x) ⊎ Has z (xs ++ ys) → (Has z (xs ++ ys) → Has z xs ⊎ Has z ys) → Has z (x ∷ xs) ⊎ Has z ys
-    go (inl e) again = inl (subst (λ (w : X). Has w (x ∷ xs)) (sym e) Has.first)
-    go (inr k) again = later (again k)
-
-append-left : {X : Type 0} {z : X} (xs ys : List X) → Has z xs → Has z (xs ++ ys)
-append-left [] ys h = elim h [ ]
-append-left {X} {z} (x ∷ xs) ys h = go (split h) (λ k. append-left xs ys k)
-  where
-    go : (z ≡ x) ⊎ Has z xs → (Has z xs → Has z (xs ++ ys)) → Has z (x ∷ (xs ++ ys))
-    go (inl e) again = subst (λ (w : X). Has w (x ∷ (xs ++ ys))) (sym e) Has.first
-    go (inr k) again = Has.later (again k)
-
-append-right : {X : Type 0} {z : X} (xs ys : List X) → Has z ys → Has z (xs ++ ys)
-append-right [] ys h = h
-append-right (x ∷ xs) ys h = Has.later (append-right xs ys h)
-
--- those of the first list pass, and those of the second do not
-filter-joined : {X : Type 0} (test : X → Bool) (xs ys : List X) → ((x : X) → Has x xs → test x ≡ true) → ((y : X) → Has y ys → test y ≡ false) → filter test (xs ++ ys) ≡ xs
-filter-joined test [] [] pass fail = refl
-filter-joined test [] (y ∷ ys) pass fail = rw (fail y Has.first) (filter-joined test [] ys pass (λ z h. fail z (Has.later h)))
-filter-joined test (x ∷ xs) ys pass fail = rw (pass x Has.first) (ap (λ zs. x ∷ zs) (filter-joined test xs ys (λ z h. pass z (Has.later h)) fail))
-
--- pairs of two lists, one after the other
-pairs-joined : {X : Type 0} (R : X → X → Type 0) (xs ys : List X) → AllPairs R xs → AllPairs R ys → ((x y : X) → Has x xs → Has y ys → R x y) → AllPairs R (xs ++ ys)
-pairs-joined R [] ys p q h = q
-pairs-joined {X} R (x ∷ xs) ys p q h = AllPairs-cons R x (xs ++ ys) (all-from_has (R x) (xs ++ ys) (λ y m. over y (has-append xs ys m))) (pairs-joined R xs ys (pairs-rest R x xs p) q (λ a b m n. h a b (Has.later m) n))
-  where
-    over : (y : X) → Has y xs ⊎ Has y ys → R x y
-    over y (inl m) = first-to R x xs p y m
-    over y (inr n) = h x y Has.first n
-
-module _ {E : Type 0} (v : ℕ) where
-  in-has : (xs : List (Polynomial E)) → AreInVariables v xs → {h : Polynomial E} → Has h xs → IsTrue (is_in_variables v h)
-  in-has [] all m = elim m [ ]
-  in-has (x ∷ xs) all Has.first = (both (is_in_variables v x) (list_all (is_in_variables v) xs) all).0
-  in-has (x ∷ xs) all (Has.later m) = in-has xs (both (is_in_variables v x) (list_all (is_in_variables v) xs) all).1 m
-
-  in-from : (xs : List (Polynomial E)) → ((h : Polynomial E) → Has h xs → IsTrue (is_in_variables v h)) → AreInVariables v xs
-  in-from [] h = refl
-  in-from (x ∷ xs) h = and_true (is_in_variables v x) (list_all (is_in_variables v) xs) (h x Has.first) (in-from xs (λ y m. h y (Has.later m)))
+use Rattle.rinv_cut.proofs.JoinedLists.{differ, has-append, append-left, append-right, filter-joined, pairs-joined, in-has, in-from, has-reducible, reducible-has, lead-trans, monic-has, apart_in, off}
 
 module _ {E : Type 0} (o : RingOps E) (l : RingLaws o) (field : FieldLaws o) (cmp : List ℕ → List ℕ → Ordering) where
   abbrev lead : Polynomial E → List ℕ
   lead h = leading_monomial o cmp h
 
-  -- an element of a list whose leading monomial divides
-  has-reducible : (xs : List (Polynomial E)) (m : List ℕ) (h : Polynomial E) → Has h xs → IsTrue (lead_divides o cmp h m) → IsTrue (is_reducible o cmp xs m)
-  has-reducible xs m h has d = let (p, inside, e) = place_of [] xs has in divisor_reducible o cmp xs m p inside (subst (λ (g : Polynomial E). IsTrue (lead_divides o cmp g m)) (sym e) d)
-
-  reducible-has : (xs : List (Polynomial E)) (m : List ℕ) → IsTrue (is_reducible o cmp xs m) → (p : ℕ) × (p < length xs) × IsTrue (lead_divides o cmp (get_or xs p []) m)
-  reducible-has xs m r = let (p, inside, d, before) = first_divisor o cmp xs m r in (p, inside, d)
-
-  lead-trans : (g h : Polynomial E) (m : List ℕ) → IsTrue (lead_divides o cmp g (lead h)) → IsTrue (lead_divides o cmp h m) → IsTrue (lead_divides o cmp g m)
-  lead-trans g h m d e =
-      let a = divides-parts o cmp g (lead h) d in
-      let b = divides-parts o cmp h m e in
-      parts_divide o cmp g m a.0 (divisor-divides (lead g) m (divisor_trans (monomial (lead g)) (monomial (lead h)) (monomial m) (divides-divisor (lead g) (lead h) a.1) (divides-divisor (lead h) m b.1)))
-
-  monic-has : (xs : List (Polynomial E)) → AreMonic o cmp xs → (h : Polynomial E) → Has h xs → IsSame o (leading_coefficient o cmp h) o.one
-  monic-has xs monic h has = let (p, inside, e) = place_of [] xs has in subst (λ (g : Polynomial E). IsSame o (leading_coefficient o cmp g) o.one) e (monic p inside)
-
   nonzero-has : (xs : List (Polynomial E)) → AreMonic o cmp xs → (h : Polynomial E) → Has h xs → IsFalse (is_zero o h)
-  nonzero-has xs monic h has = monic-nonzero o l field cmp h (monic-has xs monic h has)
+  nonzero-has xs monic h has = monic-nonzero o l field cmp h (monic-has o cmp xs monic h has)
 
   module _ (v k : ℕ) (order : OrdersMonomials cmp v) (eliminates : Eliminates cmp k) (fs hs : List (Polynomial E)) (hs_in : AreInVariables v hs) (nonzero : AreNonzero o hs) (basis : IsGroebnerBasis o cmp v fs hs)
       (gs : List (Polynomial E)) (gs_in : AreInVariables v gs) (gs_reduced : IsReducedGroebnerBasis o cmp v (free_part o cmp k hs) gs) (up : Ascend o cmp gs)
@@ -222,7 +150,7 @@ module _ {E : Type 0} (o : RingOps E) (l : RingLaws o) (field : FieldLaws o) (cm
     free_divided : (p : ℕ) → p < length ps → (q : ℕ) × (q < length gs) × IsTrue (lead_divides o cmp (get_or gs q []) (lead (get_or ps p [])))
     free_divided p inside =
         let m = has_at [] ps p inside in
-        reducible-has gs (lead (get_or ps p []))
+        reducible-has o cmp gs (lead (get_or ps p []))
         (gs_reduced.basis.divided (get_or ps p []) (in-has v hs hs_in (list-has is_free_lead hs m)) (all_has (IsMember o ps) ps (own_members o l ps) m) (free_nonzero o l field cmp v k order eliminates fs hs hs_first nonzero basis p inside))
 
     gs_free_at : (i : ℕ) → i < length gs → IsTrue (is_free k (leading_monomial o cmp (get_or gs i [])))
@@ -235,7 +163,7 @@ module _ {E : Type 0} (o : RingOps E) (l : RingLaws o) (field : FieldLaws o) (cm
         h_has = has_at [] gs i inside
 
         by_free : (p : ℕ) × (p < length ps) × IsTrue (lead_divides o cmp (get_or ps p []) (lead h))
-        by_free = reducible-has ps (lead h) ((free-basis o l field cmp v k order eliminates fs hs hs_first nonzero basis).divided h (in-has v gs gs_in h_has) (gs_member_in h h_has) (gs_nonzero h h_has))
+        by_free = reducible-has o cmp ps (lead h) ((free-basis o l field cmp v k order eliminates fs hs hs_first nonzero basis).divided h (in-has v gs gs_in h_has) (gs_member_in h h_has) (gs_nonzero h h_has))
 
         by_own : (q : ℕ) × (q < length gs) × IsTrue (lead_divides o cmp (get_or gs q []) (lead (get_or ps by_free.0 [])))
         by_own = free_divided by_free.0 by_free.1
@@ -249,7 +177,7 @@ module _ {E : Type 0} (o : RingOps E) (l : RingLaws o) (field : FieldLaws o) (cm
         go : (b : Bool) → (q == i) ≡ b → IsTrue (is_free k (lead h))
         go true e = divides-free k (lead h) (lead (get_or ps by_free.0 []))
             (divides-parts o cmp h (lead (get_or ps by_free.0 [])) (subst (λ (j : ℕ). IsTrue (lead_divides o cmp (get_or gs j []) (lead (get_or ps by_free.0 [])))) (eqb-true q i e) by_own.2)).1 p_free
-        go false e = absurd (true≢false (sym (lead-trans (get_or gs q []) (get_or ps by_free.0 []) (lead h) by_own.2 by_free.2) ∙ gs_reduced.apart i q inside by_own.1 (λ same. differ q i e (sym same)) (lead h) (leads h (gs_nonzero h h_has))))
+        go false e = absurd (true≢false (sym (lead-trans o cmp (get_or gs q []) (get_or ps by_free.0 []) (lead h) by_own.2 by_free.2) ∙ gs_reduced.apart i q inside by_own.1 (λ same. differ q i e (sym same)) (lead h) (leads h (gs_nonzero h h_has))))
 
     gs_free : (h : Polynomial E) → Has h gs → IsTrue (is_free_lead h)
     gs_free h m = let (i, inside, e) = place_of [] gs m in subst (λ (g : Polynomial E). IsTrue (is_free_lead g)) e (gs_free_at i inside)
@@ -274,7 +202,7 @@ module _ {E : Type 0} (o : RingOps E) (l : RingLaws o) (field : FieldLaws o) (cm
     divided f f_in m n = go (is_free_lead b) refl
       where
         by : (q : ℕ) × (q < length bs) × IsTrue (lead_divides o cmp (get_or bs q []) (lead f))
-        by = reducible-has bs (lead f) (bs_reduced.basis.divided f f_in m n)
+        by = reducible-has o cmp bs (lead f) (bs_reduced.basis.divided f f_in m n)
 
         b : Polynomial E
         b = get_or bs by.0 []
@@ -283,11 +211,11 @@ module _ {E : Type 0} (o : RingOps E) (l : RingLaws o) (field : FieldLaws o) (cm
         b_has = has_at [] bs by.0 by.1
 
         go : (c : Bool) → is_free_lead b ≡ c → IsTrue (is_reducible o cmp both_parts (lead f))
-        go false e = has-reducible both_parts (lead f) b (append-right gs ns (ns-from b b_has e)) by.2
+        go false e = has-reducible o cmp both_parts (lead f) b (append-right gs ns (ns-from b b_has e)) by.2
         go true e =
-            let (p, inside, d) = reducible-has ps (lead b) (elimination.divided b (in-has v bs bs_in b_has) (free_lead o l cmp v order k eliminates b (bs_nonzero b b_has) e) (bs_member b b_has) (bs_nonzero b b_has)) in
+            let (p, inside, d) = reducible-has o cmp ps (lead b) (elimination.divided b (in-has v bs bs_in b_has) (free_lead o l cmp v order k eliminates b (bs_nonzero b b_has) e) (bs_member b b_has) (bs_nonzero b b_has)) in
             let (q, there, c) = free_divided p inside in
-            has-reducible both_parts (lead f) (get_or gs q []) (append-left {z = get_or gs q []} gs ns (has_at [] gs q there)) (lead-trans (get_or gs q []) b (lead f) (lead-trans (get_or gs q []) (get_or ps p []) (lead b) c d) by.2)
+            has-reducible o cmp both_parts (lead f) (get_or gs q []) (append-left {z = get_or gs q []} gs ns (has_at [] gs q there)) (lead-trans o cmp (get_or gs q []) b (lead f) (lead-trans o cmp (get_or gs q []) (get_or ps p []) (lead b) c d) by.2)
 
     whole_basis : IsGroebnerBasis o cmp v fs both_parts
     whole_basis = record {
@@ -302,8 +230,8 @@ module _ {E : Type 0} (o : RingOps E) (l : RingLaws o) (field : FieldLaws o) (cm
     monic j inside = of_either (get_or both_parts j []) (has-append gs ns (has_at [] both_parts j inside))
       where
         of_either : (h : Polynomial E) → Has h gs ⊎ Has h ns → IsSame o (leading_coefficient o cmp h) o.one
-        of_either h (inl m) = monic-has gs gs_reduced.monic h m
-        of_either h (inr m) = monic-has bs bs_reduced.monic h (ns_of h m).0
+        of_either h (inl m) = monic-has o cmp gs gs_reduced.monic h m
+        of_either h (inr m) = monic-has o cmp bs bs_reduced.monic h (ns_of h m).0
 
     ascending : Ascend o cmp both_parts
     ascending = pairs-joined (λ f g. cmp (leading_monomial o cmp f) (leading_monomial o cmp g) ≡ Less) gs ns up ns_ascend (λ g h m n. below g h m n (cmp (lead g) (lead h)) refl)
@@ -324,28 +252,14 @@ module _ {E : Type 0} (o : RingOps E) (l : RingLaws o) (field : FieldLaws o) (cm
         tied : (g h : Polynomial E) → g ≡ h → cmp (lead g) (lead h) ≡ Less → ⊥
         tied g h e less = clash (sym (tied_itself order.laws.total (lead g)) ∙ subst (λ (f : Polynomial E). cmp (lead g) (lead f) ≡ Less) (sym e) less)
 
-    -- no leading monomial divides a monomial of another element
-    apart_in : (xs : List (Polynomial E)) → AreApart o cmp xs → (g h : Polynomial E) → Has g xs → Has h xs → (g ≡ h → ⊥) → (m : List ℕ) → IsTrue (has_monomial o g m) → IsFalse (lead_divides o cmp h m)
-    apart_in xs apart g h a b n m has =
-        let (i, low, e) = place_of [] xs a in
-        let (j, high, f) = place_of [] xs b in
-        subst (λ (x : Polynomial E). IsFalse (lead_divides o cmp x m)) f (apart i j low high (λ q. n (sym e ∙ ap (λ (c : ℕ). get_or xs c []) q ∙ f)) m (subst (λ (x : Polynomial E). IsTrue (has_monomial o x m)) (sym e) has))
-
-    off : (h : Polynomial E) (m : List ℕ) → (IsTrue (lead_divides o cmp h m) → ⊥) → IsFalse (lead_divides o cmp h m)
-    off h m n = go (lead_divides o cmp h m) refl
-      where
-        go : (b : Bool) → lead_divides o cmp h m ≡ b → b ≡ false
-        go true e = absurd (n e)
-        go false e = refl
-
     two_apart : (g h : Polynomial E) → (g ≡ h → ⊥) → Has g gs ⊎ Has g ns → Has h gs ⊎ Has h ns → (m : List ℕ) → IsTrue (has_monomial o g m) → IsFalse (lead_divides o cmp h m)
-    two_apart g h n (inl a) (inl b) m has = apart_in gs gs_reduced.apart g h a b n m has
-    two_apart g h n (inr a) (inr b) m has = apart_in bs bs_reduced.apart g h (ns_of g a).0 (ns_of h b).0 n m has
-    two_apart g h n (inl a) (inr b) m has = off h m (λ d. true≢false (sym (divides-free k (lead h) m (divides-parts o cmp h m d).1 (free_lead o l cmp v order k eliminates g (gs_nonzero g a) (gs_free g a) m has)) ∙ (ns_of h b).1))
-    two_apart g h n (inr a) (inl b) m has = off h m (λ d.
-        let (q, there, e) = reducible-has bs (lead h) (bs_reduced.basis.divided h (in-has v gs gs_in b) (all_has (IsMember o fs) gs gs_members b) (gs_nonzero h b)) in
+    two_apart g h n (inl a) (inl b) m has = apart_in o cmp gs gs_reduced.apart g h a b n m has
+    two_apart g h n (inr a) (inr b) m has = apart_in o cmp bs bs_reduced.apart g h (ns_of g a).0 (ns_of h b).0 n m has
+    two_apart g h n (inl a) (inr b) m has = off o cmp h m (λ d. true≢false (sym (divides-free k (lead h) m (divides-parts o cmp h m d).1 (free_lead o l cmp v order k eliminates g (gs_nonzero g a) (gs_free g a) m has)) ∙ (ns_of h b).1))
+    two_apart g h n (inr a) (inl b) m has = off o cmp h m (λ d.
+        let (q, there, e) = reducible-has o cmp bs (lead h) (bs_reduced.basis.divided h (in-has v gs gs_in b) (all_has (IsMember o fs) gs gs_members b) (gs_nonzero h b)) in
         let free = divides-free k (lead (get_or bs q [])) (lead h) (divides-parts o cmp (get_or bs q []) (lead h) e).1 (gs_free h b) in
-        true≢false (sym (lead-trans (get_or bs q []) h m e d) ∙ apart_in bs bs_reduced.apart g (get_or bs q []) (ns_of g a).0 (has_at [] bs q there) (λ same. true≢false (sym free ∙ ap is_free_lead (sym same) ∙ (ns_of g a).1)) m has))
+        true≢false (sym (lead-trans o cmp (get_or bs q []) h m e d) ∙ apart_in o cmp bs bs_reduced.apart g (get_or bs q []) (ns_of g a).0 (has_at [] bs q there) (λ same. true≢false (sym free ∙ ap is_free_lead (sym same) ∙ (ns_of g a).1)) m has))
 
     joined-reduced : IsReducedGroebnerBasis o cmp v fs both_parts
     joined-reduced = record {

@@ -3,3 +3,4 @@ pub mod FreeBasis
 pub mod Written
 pub mod Sorted
 pub mod Joined
+pub mod JoinedLists
