@@ -1,5 +1,6 @@
 -- The basis of the action's ideal, from what Buchberger's algorithm answers on the generators as they are stored.
 --   journal-over             a journal, over a list that is the same place by place
+--   sparing-over             a sparing journal, in the same way
 --   action_basis-of          what is known of the basis
 --   stops-over               where the run halts
 use Rattle.std.proofs.Common.{◌≡◌, ℕ, Bool, true, false, cond, not, List, [], ◌∷◌, map, refl, sym, ap, ◌∙◌, subst, nat_lt, All}
@@ -14,6 +15,7 @@ use Rattle.rinv_algebra.proofs.PolynomialLaws.{poly_laws}
 use Rattle.rinv_algebra.proofs.ResidueLaws.{residue_laws}
 use Rattle.rinv_groebner.specs.Division.{AreSame}
 use Rattle.rinv_groebner.specs.Journal.{Entry, Journal, begin, enter, IsComplete, nonzeros}
+use Rattle.rinv_groebner.specs.Sparing.{IsSparing}
 use Rattle.rinv_sub.specs.Refusal.{never}
 use Rattle.rinv_defs.specs.System.{System, Poly}
 use Rattle.rinv_defs.specs.PairConditions.{action_order}
@@ -54,6 +56,15 @@ module _ {E : Type 0} (o : RingOps E) (l : RingLaws o) where
   journal-over cmp fs gs _ _ same (begin list is) = begin list (same-lists list (nonzeros o fs) (nonzeros o gs) is (nonzeros-alike fs gs same))
   journal-over cmp fs gs _ _ same (enter journal list e made before entry) = enter journal list e made (journal-over cmp fs gs journal list same before) entry
 
+  same-back : (fs gs : List (Polynomial E)) → AreSame o fs gs → AreSame o gs fs
+  same-back [] [] a = tt
+  same-back [] (g ∷ gs) a = absurd a
+  same-back (f ∷ fs) [] a = absurd a
+  same-back (f ∷ fs) (g ∷ gs) a = ((poly_laws o l).same_sym f g a.0, same-back fs gs a.1)
+
+  pub sparing-over : (cmp : List ℕ → List ℕ → Ordering) (fs gs : List (Polynomial E)) (journal : List Entry) → AreSame o fs gs → IsSparing o cmp fs journal → IsSparing o cmp gs journal
+  sparing-over cmp fs gs journal same sparing before after e list whole made = sparing before after e list whole (journal-over cmp gs fs before list (same-back fs gs same) made)
+
 -- in a ring and an order that are those of the action, on generators that are stored
 module _ (s : System) (p v : ℕ) (cmp : List ℕ → List ℕ → Ordering) (fs : List Poly) (field : p ≡ s.p) (vars : v ≡ all_count s) (order : cmp ≡ action_order s) (stored : AreStored s.p (all_count s) (action_ideal s) fs) where
   same : AreSame (residue_ops s.p) fs (action_ideal s)
@@ -75,6 +86,7 @@ module _ (s : System) (p v : ℕ) (cmp : List ℕ → List ℕ → Ordering) (fs
     journal = journal-over (residue_ops s.p) (residue_laws s.p) (action_order s) fs (action_ideal s) h.journal h.polys same there.journal;
     taken = there.taken;
     at_work = there.at_work;
+    sparing = sparing-over (residue_ops s.p) (residue_laws s.p) (action_order s) fs (action_ideal s) h.journal same there.sparing;
     spent = there.spent;
     cause = there.cause;
   }

@@ -217,6 +217,9 @@ fn is_made(alloc: Global, word: &str) -> bool {
 }
 
 fn first_is(alloc: Global, names: &[Name], word: &str) -> bool {
+    if names.len() > 1 {
+        return false;
+    }
     if !are_names(&[], names) {
         return false;
     }

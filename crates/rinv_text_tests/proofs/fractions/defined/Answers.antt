@@ -14,7 +14,10 @@ pub read-requires-2-clause-many : goal.read-requires-2-clause-many
 read-requires-2-clause-many c = two-names _ _ c.in_ok-names.ensures c.fractions-field.ensures
 
 pub read-requires-2-clause-apart : goal.read-requires-2-clause-apart
-read-requires-2-clause-apart c = ?
+read-requires-2-clause-apart c = one-apart _ _ _ _ c.in_ok-names.ensures c.in_ok-defs.ensures
 
 pub read-requires-2-clause-values : goal.read-requires-2-clause-values
-read-requires-2-clause-values c = ?
+read-requires-2-clause-values c = one-stored _ _ _ _ _ c.in_ok-defs.ensures c.in_ok-value.ensures.element
+
+pub printed-requires-clause-names : goal.printed-requires-clause-names
+printed-requires-clause-names c = two-names _ _ c.in_ok-names.ensures c.fractions-field.ensures

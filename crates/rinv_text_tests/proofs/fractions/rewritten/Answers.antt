@@ -10,5 +10,5 @@ read-requires-clause-apart c = none-apart _ _ c.empty-defs.ensures
 pub read-requires-clause-values : goal.read-requires-clause-values
 read-requires-clause-values c = none-stored _ _ _ c.empty-defs.ensures
 
-pub printed-out-requires-clause-names : goal.printed-out-requires-clause-names
-printed-out-requires-clause-names c = two-names _ _ c.in_ok-names.ensures c.fractions-field.ensures
+pub printed-requires-clause-names : goal.printed-requires-clause-names
+printed-requires-clause-names c = two-names _ _ c.in_ok-names.ensures c.fractions-field.ensures
