@@ -27,7 +27,7 @@ pub(crate) struct Asked {
 }
 
 /// Those of the fraction.
-pub(crate) fn asked(
+pub(crate) fn asked_of(
     alloc: Global,
     system: &System,
     group: &GroupBasis,

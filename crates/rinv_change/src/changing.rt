@@ -4,7 +4,7 @@ ghost use Rattle.std.specs.Prelude.{◌≡◌, ◌+◌, IfOk};
 ghost use Rattle.std.specs.Result.{MatchResult};
 ghost use Rattle.rinv_algebra.specs.Residue.{residue_ops};
 ghost use Rattle.rinv_algebra.specs.Polynomial.{difference, past, product};
-ghost use Rattle.rinv_defs.specs.System.{Poly, group_count, space_count};
+ghost use Rattle.rinv_defs.specs.System.{Poly, System, group_count, space_count};
 ghost use Rattle.rinv_defs.specs.SystemForm.{IsSystem};
 ghost use Rattle.rinv_defs.specs.Invariant.{at_moved_point, change};
 ghost use Rattle.rinv_ring.specs.Fault.{DegreesMeet};
@@ -64,7 +64,7 @@ fn behind_group(
 fn product(alloc: Global, ring: &PolyRing<Gf>, a: &KPoly, b: &KPoly) -> Result<KPoly, RingFault>
     requires left { IsPart ring.now.coeffs ring.now.vars a.now }
     requires right { IsPart ring.now.coeffs ring.now.vars b.now }
-    ensures { (f g : Poly) → IsStoredIn ring.now.coeffs ring.now.vars f a.now → IsStoredIn ring.now.coeffs ring.now.vars g b.now → MatchResult result (IsStoredIn ring.now.coeffs ring.now.vars (product (residue_ops ring.now.coeffs) f g)) (DegreesMeet (MonomialsMeet (residue_ops ring.now.coeffs) f g)) }
+    ensures { (s : System) (f g : Poly) → IsChangeRing s ring.now.coeffs ring.now.vars → IsStoredIn s.p (change_count s) f a.now → IsStoredIn s.p (change_count s) g b.now → MatchResult result (IsStoredIn s.p (change_count s) (product (residue_ops s.p) f g)) (DegreesMeet (MonomialsMeet (residue_ops s.p) f g)) }
 {
     ring.mul(alloc, a, b)
 }
@@ -73,7 +73,7 @@ fn product(alloc: Global, ring: &PolyRing<Gf>, a: &KPoly, b: &KPoly) -> Result<K
 fn difference(alloc: Global, ring: &PolyRing<Gf>, a: &KPoly, b: &KPoly) -> Result<KPoly, NoMemory>
     requires left { IsPart ring.now.coeffs ring.now.vars a.now }
     requires right { IsPart ring.now.coeffs ring.now.vars b.now }
-    ensures { (f g : Poly) → IsStoredIn ring.now.coeffs ring.now.vars f a.now → IsStoredIn ring.now.coeffs ring.now.vars g b.now → IfOk result (IsStoredIn ring.now.coeffs ring.now.vars (difference (residue_ops ring.now.coeffs) f g)) }
+    ensures { (s : System) (f g : Poly) → IsChangeRing s ring.now.coeffs ring.now.vars → IsStoredIn s.p (change_count s) f a.now → IsStoredIn s.p (change_count s) g b.now → IfOk result (IsStoredIn s.p (change_count s) (difference (residue_ops s.p) f g)) }
 {
     // Differences of numbers modulo a prime are refused for memory alone.
     let Ok(difference) = ring.sub(alloc, a, b) else {
@@ -94,13 +94,14 @@ pub(crate) fn change_of(
     ensures { MatchResult result (IsStoredIn system.now.system.p (change_count system.now.system) (change system.now.system f.now)) (DegreesMeet (ChangingMeets system.now.system f.now)) }
 {
     let fractions = FracRing::new(PolyRing::new(system.field, system.space.len()));
-    let (num, den) = (fractions.num(f), fractions.den(f));
+    let num = fractions.num(f);
+    let den = fractions.den(f);
     let num_moved = at_moved_point(alloc, system, ring, num)?;
     let den_moved = at_moved_point(alloc, system, ring, den)?;
-    let num = behind_group(alloc, system, ring, num)?;
-    let den = behind_group(alloc, system, ring, den)?;
-    let first = product(alloc, ring, &num_moved, &den)?;
-    let second = product(alloc, ring, &num, &den_moved)?;
+    let num_behind = behind_group(alloc, system, ring, num)?;
+    let den_behind = behind_group(alloc, system, ring, den)?;
+    let first = product(alloc, ring, &num_moved, &den_behind)?;
+    let second = product(alloc, ring, &num_behind, &den_moved)?;
     let change = difference(alloc, ring, &first, &second)?;
     Ok(change)
 }

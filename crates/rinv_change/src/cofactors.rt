@@ -21,7 +21,7 @@ ghost use Rattle.rinv_change.specs.Asked.{IsChangeRing};
 ghost use Rattle.rinv_change.specs.Changes.{ChangeMeets, change_count};
 ghost use Rattle.rinv_change.specs.Cofactors.{AreQuotientsOf, AreWideCofactors, ProofMeets, ProvesInvariance};
 
-use crate::asked::asked;
+use crate::asked::asked_of;
 use crate::changing::change_ring;
 use rinv_buch::kept_places;
 use rinv_cofactors::{combinations, sum_of_products};
@@ -138,7 +138,7 @@ fn quotients_of(
     ensures quotients { IfOk result (λ qs. AreQuotientsOf system.now.system group.now.basis f.now qs.items) }
     ensures degree { IfErr result (DegreesMeet (ChangeMeets system.now.system group.now.basis f.now)) }
 {
-    let asked = asked(alloc, system, group, f)?;
+    let asked = asked_of(alloc, system, group, f)?;
     let basis = &asked.basis;
     let division = divide_wholly(
         &asked.ring,

@@ -10,7 +10,7 @@ ghost use Rattle.rinv_frac.specs.Fractions.{IsStored};
 ghost use Rattle.rinv_laws.specs.Group.{IsGroupBasis};
 ghost use Rattle.rinv_change.specs.Changes.{ChangeMeets, IsStray};
 
-use crate::asked::asked;
+use crate::asked::asked_of;
 use rinv_div::remainder_wholly;
 use rinv_frac::Frac;
 use rinv_laws::GroupBasis;
@@ -35,7 +35,7 @@ pub fn test_invariant(
     ensures exact { IfOk result (λ r. MatchOption r (IsInvariant system.now.system f.now) (IsStray system.now.system f.now)) }
     ensures degree { IfErr result (DegreesMeet (ChangeMeets system.now.system group.now.basis f.now)) }
 {
-    let asked = asked(alloc, system, group, f)?;
+    let asked = asked_of(alloc, system, group, f)?;
     let basis = &asked.basis;
     let rest = remainder_wholly(
         &asked.ring,
