@@ -1,0 +1,5 @@
+use Rattle.rinv_tails.proofs.ReducedLists.{AreReducing}
+use Rattle.rinv_tails.proofs.reducing.reduced_tails.Given as goal
+
+abbrev pub invariant-relations : goal.invariant-relations
+invariant-relations l = AreReducing l.field.base.coeffs l.field.base.vars l.fn.relations l.relation-index l.reduced.items
