@@ -13,7 +13,7 @@ use rinv_buch::leading_term;
 use rinv_frac::{Frac, FracRing};
 use rinv_mono::{Grevlex, Mono};
 use rinv_poly::{KPoly, PolyRing};
-use rinv_ring::{Field, Gf, NoMemory, Ring};
+use rinv_ring::{Gf, NoMemory, Ring};
 use std::alloc::Global;
 use std::cmp::Ordering;
 
@@ -33,7 +33,7 @@ pub(crate) fn constant_of(
     let (num, den) = (field.num(c), field.den(c));
     let (lead, d) = leading_term(ring, den, &Grevlex);
     let n = coefficient_at(ring, num, lead);
-    let value = quotient(ring.coeffs(), alloc, n, *d)?;
+    let value = quotient(ring.coeffs(), n, *d);
     let multiple = multiple(ring, alloc, value, den)?;
     let is_value = are_same(ring, alloc, &multiple, num)?;
     Ok(is_value.then_some(value))
@@ -56,21 +56,17 @@ fn coefficient_at(ring: &PolyRing<Gf>, f: &KPoly, mono: &Mono) -> u32
 }
 
 // The number by which the second is multiplied to give the first.
-fn quotient(field: &Gf, alloc: Global, n: u32, d: u32) -> Result<u32, NoMemory>
+fn quotient(field: &Gf, n: u32, d: u32) -> u32
     requires dividend { n < field.now }
     requires divisor { d < field.now }
-    requires nonzero { (residue_ops field.now).same d 0 ≡ false }
-    ensures element { IfOk result (λ q. q < field.now) }
-    ensures value { IfOk result (λ q. IsSame (residue_ops field.now) ((residue_ops field.now).mul q d) n) }
+    requires nonzero { (residue_ops field.now).same d (residue_ops field.now).zero ≡ false }
+    ensures element { result < field.now }
+    ensures value { IsSame (residue_ops field.now) ((residue_ops field.now).mul result d) n }
 {
-    let Some(inverse) = field.inverse(alloc, &d)? else {
-        unreachable!()
-    };
-    // Products of numbers modulo a prime are refused for memory alone.
-    let Ok(quotient) = field.mul(alloc, &n, &inverse) else {
-        return Err(NoMemory);
-    };
-    Ok(quotient)
+    match field.inverse(d) {
+        Some(inverse) => field.mul(n, inverse),
+        None => unreachable!(),
+    }
 }
 
 // The number times the polynomial.

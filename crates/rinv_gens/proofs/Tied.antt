@@ -1,0 +1,58 @@
+-- Coefficients that are tied stay so as generators are added.
+--   value-later, terms-later, relations-later    with more generators
+--   terms-more, relations-more                   one more
+--   tied-constant, tied-earlier, tied-new        what a coefficient is tied to
+use Rattle.std.proofs.Common.{◌≡◌, ℕ, ◌+◌, ◌-◌, ◌<◌, ◌≤◌, true, List, [], ◌∷◌, ◌++◌, length, length-append, get_or, map, take, refl, sym, ap, ◌∙◌, subst, subst₂, arith}
+use Rattle.std.specs.List.{AllZip}
+use Rattle.std.proofs.lemmas.List.{get_or_append_left, get_or-append-add, get_or_default, map_push}
+use Rattle.std.proofs.lemmas.List.Elements.{AllZip-push}
+use Rattle.rinv_algebra.specs.Ring.{IsSame}
+use Rattle.rinv_algebra.specs.Residue.{residue_ops}
+use Rattle.rinv_algebra.specs.Polynomial.{constant}
+use Rattle.rinv_sub.proofs.Sums.{take-at}
+use Rattle.rinv_defs.specs.Generators.{rational_ops, over_1}
+use Rattle.rinv_defs.specs.Invariant.{Fraction}
+use Rattle.rinv_defs.specs.Certificate.{Tied, to_constant, to_generator}
+use Rattle.rinv_defs.specs.Extended.{FractionPoly, Relation}
+use Rattle.rinv_coefficients.specs.Ties.{HasValueOf, TiedRelation, Ties}
+
+module _ (p : ℕ) where
+  -- with more generators
+  pub value-later : (cs ds : List Fraction) (t : Tied) (f : Fraction) → HasValueOf p cs t f → HasValueOf p (cs ++ ds) t f
+  value-later cs ds (to_constant v) f h = h
+  value-later cs ds (to_generator k) f h = (
+    h.0,
+    omega (arith, h.1, length-append cs ds),
+    subst (λ (g : Fraction). IsSame (rational_ops p) f g) (sym (get_or_append_left cs ds (rational_ops p).one (k - 1) (omega (arith, h.0, h.1)))) h.2,
+  )
+
+  -- a term is tied
+  abbrev pub IsTiedTerm : List Fraction → List ℕ × Tied → List ℕ × Fraction → Type 0
+  IsTiedTerm cs t u = (t.0 ≡ u.0) × HasValueOf p cs t.1 u.1
+
+  pub terms-later : (cs ds : List Fraction) (ts : List (List ℕ × Tied)) (us : FractionPoly) → AllZip (IsTiedTerm cs) ts us → AllZip (IsTiedTerm (cs ++ ds)) ts us
+  terms-later cs ds [] [] h = tt
+  terms-later cs ds [] (u ∷ us) h = absurd h
+  terms-later cs ds (t ∷ ts) [] h = absurd h
+  terms-later cs ds (t ∷ ts) (u ∷ us) h = ((h.0.0, value-later cs ds t.1 u.1 h.0.1), terms-later cs ds ts us h.1)
+
+  pub relations-later : (cs ds : List Fraction) (qs : List TiedRelation) (rs : List Relation) → AllZip (Ties p cs) qs rs → AllZip (Ties p (cs ++ ds)) qs rs
+  relations-later cs ds [] [] h = tt
+  relations-later cs ds [] (r ∷ rs) h = absurd h
+  relations-later cs ds (q ∷ qs) [] h = absurd h
+  relations-later cs ds (q ∷ qs) (r ∷ rs) h = (record { lead = h.0.lead; tail = terms-later cs ds q.tail r.tail h.0.tail }, relations-later cs ds qs rs h.1)
+
+  -- one term more
+  pub terms-more : {W : Type 0} (view : W → List ℕ × Tied) (cs next : List Fraction) (list : FractionPoly) (k : ℕ) (u : List ℕ × Fraction) (made : List W) (w : W) → (more : (ds : List Fraction) × (next ≡ cs ++ ds))
+      → k < length list → u ≡ get_or list k u → AllZip (IsTiedTerm cs) (map view made) (take k list) → IsTiedTerm next (view w) u → AllZip (IsTiedTerm next) (map view (made ++ w ∷ [])) (take (k + 1) list)
+  terms-more view cs next list k u made w (ds, e) few at so_far here =
+      subst₂ (AllZip (IsTiedTerm next)) (sym (map_push view made w)) (sym (take-at list k u few at))
+      (AllZip-push (IsTiedTerm next) (map view made) (take k list) (view w) u
+      (subst (λ (fs : List Fraction). AllZip (IsTiedTerm fs) (map view made) (take k list)) (sym e) (terms-later cs ds (map view made) (take k list) so_far)) here)
+
+  -- one relation more
+  pub relations-more : (cs ds next : List Fraction) (list : List Relation) (k : ℕ) (r : Relation) (made : List TiedRelation) (q : TiedRelation) → next ≡ cs ++ ds
+      → k < length list → r ≡ get_or list k r → AllZip (Ties p cs) made (take k list) → Ties p next q r → AllZip (Ties p next) (made ++ q ∷ []) (take (k + 1) list)
+  relations-more cs ds next list k r made q e few at so_far here =
+      subst (AllZip (Ties p next) (made ++ q ∷ [])) (sym (take-at list k r few at))
+      (AllZip-push (Ties p next) made (take k list) q r (subst (λ (fs : List Fraction). AllZip (Ties p fs) made (take k list)) (sym e) (relations-later cs ds made (take k list) so_far)) here)
