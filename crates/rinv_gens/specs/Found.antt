@@ -9,12 +9,12 @@ use Rattle.rinv_text.specs.Told.{Told}
 use Rattle.rinv_frac.specs.Fractions.{IsStored}
 use Rattle.rinv_coefficients.specs.Coefficients.{IsOrderedBasis, generators_of}
 use Rattle.rinv_coefficients.specs.Ties.{Ties}
-use Rattle.rinv_gens.specs.declared.kinds.Pieces.{Pieces}
+use Rattle.rinv_gens.specs.declared.kinds.Findings.{Findings}
 use Rattle.rinv_gens.specs.Runs.{BothEnd}
 
 -- The laws hold, and nothing is missed. The relations are the reduced basis of the extended ideal, in its order; the fractions are its
 -- coefficients that are not constant, each value once, in their order; and the other relations are these, tied to them.
-pub record ArePieces (told : Told) (g : Pieces) : Type 0 where
+pub record ArePieces (told : Told) (g : Findings) : Type 0 where
   pub both_end : BothEnd told g.group.basis g.action
   pub hold : AllLawsHold told.system
   pub met : ¬ (Misses told.system)

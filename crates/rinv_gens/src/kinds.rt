@@ -40,7 +40,7 @@ impl Model for Relation {
 /// The group's basis, the basis of the action's ideal, the reduced basis of the extended ideal, the same with its coefficients tied, and
 /// the generators to which they are tied.
 #[derive(Drop)]
-pub struct Pieces {
+pub struct Findings {
     pub group: GroupBasis,
     pub action: Basis<Gf>,
     pub monic: Monic,

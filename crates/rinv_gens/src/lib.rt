@@ -1,17 +1,17 @@
 //! Generators of the field of invariants.
 //!
 //! - `pieces`: from a system to the reduced basis of its extended ideal and its generators, with no cofactors
-//! - `Pieces`, `GenStop`: what was found, or why nothing is
+//! - `Findings`, `GenStop`: what was found, or why nothing is
 #![tactic(auto)]
 
 mod comparing;
 mod constants;
+mod finding;
 mod kinds;
 mod numbering;
-mod pieces;
 mod relations;
 mod runs;
 mod tying;
 
-pub use kinds::{GenStop, Phase, Pieces, Relation, Symbol};
-pub use pieces::pieces;
+pub use finding::pieces;
+pub use kinds::{Findings, GenStop, Phase, Relation, Symbol};

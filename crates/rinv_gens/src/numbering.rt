@@ -24,7 +24,7 @@ pub(crate) struct Numbered {
 }
 
 /// The relations with their coefficients tied, relation by relation, each from its greatest monomial down.
-pub(crate) fn numbered(
+pub(crate) fn number_coefficients(
     field: &FracRing,
     alloc: Global,
     monic: &Monic,

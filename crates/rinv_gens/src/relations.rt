@@ -15,7 +15,7 @@ ghost use Rattle.rinv_coefficients.specs.Ties.{Ties};
 ghost use Rattle.rinv_gens.specs.Relations.{AreReduced, AreUnreduced};
 ghost use Rattle.rinv_gens.specs.Stopped.{RelationsStopSo};
 
-use crate::numbering::{Numbered, numbered};
+use crate::numbering::{Numbered, number_coefficients};
 use rinv_buch::kinds::Basis;
 use rinv_elim::{ElimStop, eliminate, localise, reduce};
 use rinv_frac::FracRing;
@@ -96,7 +96,7 @@ fn reduced(alloc: Global, system: &System, action: &Basis<Gf>) -> Result<Monic, 
 }
 
 /// The reduced basis of the extended ideal with its coefficients numbered.
-pub(crate) fn related(
+pub(crate) fn relate(
     alloc: Global,
     system: &System,
     action: &Basis<Gf>,
@@ -112,7 +112,7 @@ pub(crate) fn related(
 {
     let monic = reduced(alloc, system, action)?;
     let field = FracRing::new(PolyRing::new(system.field, system.space.len()));
-    match numbered(&field, alloc, &monic) {
+    match number_coefficients(&field, alloc, &monic) {
         Ok(numbered) => Ok(Related { monic, numbered }),
         Err(RingFault::Degree { left, right }) => Err(RelationStop::InTails { left, right }),
         Err(RingFault::NoMemory) => Err(RelationStop::NoMemory),

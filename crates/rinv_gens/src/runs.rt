@@ -98,7 +98,7 @@ pub(crate) fn followed(group: GroupBasis, second: Vec<Entry>) -> Result<Vec<Entr
 }
 
 /// Both bases, where the laws hold.
-pub(crate) fn runs(alloc: Global, system: &System) -> Result<Runs, GenStop>
+pub(crate) fn both_runs(alloc: Global, system: &System) -> Result<Runs, GenStop>
     requires { IsSystem system.now.system }
     ensures ends { IfOk result (λ r. BothEnd system.now r.group.basis r.action) }
     ensures hold { IfOk result (λ r. AllLawsHold system.now.system) }

@@ -8,10 +8,10 @@ ghost use Rattle.rinv_gens.specs.Halts.{GenStopsSo};
 ghost use Rattle.rinv_gens.specs.Runs.{BothEnd};
 ghost use Rattle.rinv_gens.specs.Stopped.{RelationsStopSo};
 
-use crate::kinds::{GenStop, Phase, Pieces};
+use crate::kinds::{Findings, GenStop, Phase};
 use crate::numbering::Numbered;
-use crate::relations::{Related, RelationStop, related};
-use crate::runs::{Runs, followed, runs};
+use crate::relations::{Related, RelationStop, relate};
+use crate::runs::{Runs, both_runs, followed};
 use rinv_buch::Why;
 use rinv_text::System;
 use std::alloc::Global;
@@ -21,27 +21,27 @@ use std::alloc::Global;
 ///
 /// Law names the first part of a law that is false; Missed comes exactly where the section misses the orbits, once the laws hold;
 /// Incomplete says in which phase pairs, steps or degrees ended the work, with the entries of both runs up to there.
-pub fn pieces(alloc: Global, system: &System) -> Result<Pieces, GenStop>
+pub fn pieces(alloc: Global, system: &System) -> Result<Findings, GenStop>
     requires { IsSystem system.now.system }
     ensures pieces { IfOk result (ArePieces system.now) }
     ensures stop { IfErr result (GenStopsSo system.now) }
 {
-    let runs = runs(alloc, system)?;
-    match related(alloc, system, &runs.action) {
+    let runs = both_runs(alloc, system)?;
+    match relate(alloc, system, &runs.action) {
         Ok(related) => Ok(put_together(runs, related)),
         Err(stop) => Err(stopped(runs, stop)),
     }
 }
 
 // All that was found.
-fn put_together(runs: Runs, related: Related) -> Pieces {
+fn put_together(runs: Runs, related: Related) -> Findings {
     let Runs { group, action } = runs;
     let Related { monic, numbered } = related;
     let Numbered {
         relations,
         fractions,
     } = numbered;
-    Pieces {
+    Findings {
         group,
         action,
         monic,
