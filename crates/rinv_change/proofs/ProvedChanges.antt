@@ -1,12 +1,13 @@
 -- The cofactors of the group's basis, and those of a change made of them.
---   chosen-lengths, wide-lengths    how long the lists are
+--   wide-lengths, wide-long    how long the lists are
 --   quotients-number     a change has as many quotients as elements are kept
 --   change-proved        the sums of products prove the fraction invariant
 --   sums-meet            the degrees that they meet
-use Rattle.std.proofs.Common.{◌≡◌, ◌<◌, ℕ, List, [], length, get_or, map, All, IsTrue, nat_lt, sym, ◌∙◌, ap, subst, inl, inr}
+--   wide-made            the lists of cofactors that were made
+use Rattle.std.proofs.Common.{◌≡◌, ◌<◌, ℕ, List, [], ◌∷◌, length, get_or, map, All, IsTrue, nat_lt, sym, ◌∙◌, subst, subst₂, inr}
 use Rattle.std.specs.List.{AllZip, range_with_len}
 use Rattle.std.proofs.lemmas.List.{length-map}
-use Rattle.std.proofs.lemmas.List.Elements.{length_all_zip, All-nil, All-cons, All-head, All-tail}
+use Rattle.std.proofs.lemmas.List.Elements.{length_all_zip, All-nil, All-cons, All-head, All-map, All-tail}
 use Rattle.std.proofs.lemmas.List.FromFn.{length-range_with_len}
 use Rattle.rinv_algebra.specs.Ring.{IsSame}
 use Rattle.rinv_algebra.specs.Residue.{residue_ops}
@@ -28,7 +29,8 @@ use Rattle.rinv_cofactors.proofs.CombinedSums.{combination-right, column-sums}
 use Rattle.rinv_defs.specs.System.{System, Poly}
 use Rattle.rinv_defs.specs.Invariant.{Fraction, change}
 use Rattle.rinv_parts.specs.Points.{ArePolynomials}
-use Rattle.rinv_laws.specs.Proofs.{KeepCofactors, ProductsMeet, kept_elements}
+use Rattle.rinv_laws.specs.Proofs.{KeepCofactors, ProductsMeet, chosen, kept_elements}
+use Rattle.rinv_change.specs.Asked.{IsChangeRing}
 use Rattle.rinv_laws.proofs.CopiedCofactors.{entries-same}
 use Rattle.rinv_change.specs.Changes.{DividesChange, change_count}
 use Rattle.rinv_change.specs.Cofactors.{AreQuotientsOf, AreWideCofactors, CofactorMeets, FollowRule, ProofMeets, ProvesInvariance}
@@ -111,3 +113,13 @@ module _ (s : System) (found : Found ℕ) (ws : List (List Poly)) (wide : AreWid
       is_cofactor = entries-same (residue_ops s.p) (residue_laws s.p) ws wide.lists wide.same m.element m.given;
       meets = m.meets;
     })) fault meets
+
+-- the lists that were made are the kept elements' cofactors
+pub wide-made : {W : Type 0} (view : W → List Poly) (s : System) (found : Found ℕ) (p v : ℕ) → IsChangeRing s p v → (given others : List W) (places ks : List ℕ) (ws : List W) → others ≡ given → ks ≡ places
+    → KeepCofactors s found (chosen (map view given) places) → All (λ us. ArePolynomials p v (view us)) ws → AllZip (AreSame (residue_ops p)) (map view ws) (chosen (map view others) ks) → AreWideCofactors s found (map view ws)
+wide-made view s found p v ring given others places ks ws a b keep normal same = record {
+  lists = chosen (map view given) places;
+  keep = keep;
+  same = subst (λ (q : ℕ). AllZip (AreSame (residue_ops q)) (map view ws) (chosen (map view given) places)) ring.field (rw (← a, ← b) same);
+  normal = All-map (ArePolynomials s.p (change_count s)) view ws (subst₂ (λ (q w : ℕ). All (λ us. ArePolynomials q w (view us)) ws) ring.field ring.vars normal);
+}

@@ -4,7 +4,7 @@ ghost use Rattle.std.specs.Prelude.{◌≡◌, ◌+◌, IfOk};
 ghost use Rattle.std.specs.Result.{MatchResult};
 ghost use Rattle.rinv_algebra.specs.Residue.{residue_ops};
 ghost use Rattle.rinv_algebra.specs.Polynomial.{difference, past, product};
-ghost use Rattle.rinv_defs.specs.System.{Poly, System, group_count, space_count};
+ghost use Rattle.rinv_defs.specs.System.{Poly, System as Acting, group_count, space_count};
 ghost use Rattle.rinv_defs.specs.SystemForm.{IsSystem};
 ghost use Rattle.rinv_defs.specs.Invariant.{at_moved_point, change};
 ghost use Rattle.rinv_ring.specs.Fault.{DegreesMeet};
@@ -64,7 +64,7 @@ fn behind_group(
 fn product(alloc: Global, ring: &PolyRing<Gf>, a: &KPoly, b: &KPoly) -> Result<KPoly, RingFault>
     requires left { IsPart ring.now.coeffs ring.now.vars a.now }
     requires right { IsPart ring.now.coeffs ring.now.vars b.now }
-    ensures { (s : System) (f g : Poly) → IsChangeRing s ring.now.coeffs ring.now.vars → IsStoredIn s.p (change_count s) f a.now → IsStoredIn s.p (change_count s) g b.now → MatchResult result (IsStoredIn s.p (change_count s) (product (residue_ops s.p) f g)) (DegreesMeet (MonomialsMeet (residue_ops s.p) f g)) }
+    ensures { (s : Acting) (f g : Poly) → IsChangeRing s ring.now.coeffs ring.now.vars → IsStoredIn s.p (change_count s) f a.now → IsStoredIn s.p (change_count s) g b.now → MatchResult result (IsStoredIn s.p (change_count s) (product (residue_ops s.p) f g)) (DegreesMeet (MonomialsMeet (residue_ops s.p) f g)) }
 {
     ring.mul(alloc, a, b)
 }
@@ -73,7 +73,7 @@ fn product(alloc: Global, ring: &PolyRing<Gf>, a: &KPoly, b: &KPoly) -> Result<K
 fn difference(alloc: Global, ring: &PolyRing<Gf>, a: &KPoly, b: &KPoly) -> Result<KPoly, NoMemory>
     requires left { IsPart ring.now.coeffs ring.now.vars a.now }
     requires right { IsPart ring.now.coeffs ring.now.vars b.now }
-    ensures { (s : System) (f g : Poly) → IsChangeRing s ring.now.coeffs ring.now.vars → IsStoredIn s.p (change_count s) f a.now → IsStoredIn s.p (change_count s) g b.now → IfOk result (IsStoredIn s.p (change_count s) (difference (residue_ops s.p) f g)) }
+    ensures { (s : Acting) (f g : Poly) → IsChangeRing s ring.now.coeffs ring.now.vars → IsStoredIn s.p (change_count s) f a.now → IsStoredIn s.p (change_count s) g b.now → IfOk result (IsStoredIn s.p (change_count s) (difference (residue_ops s.p) f g)) }
 {
     // Differences of numbers modulo a prime are refused for memory alone.
     let Ok(difference) = ring.sub(alloc, a, b) else {

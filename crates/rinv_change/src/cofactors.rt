@@ -120,8 +120,8 @@ pub fn kept_cofactors(
     let (lists, places) = basis_cofactors(alloc, system, group)?;
     let from = PolyRing::new(system.field, system.group.len());
     let ring = change_ring(system);
-    let lists = widened_lists(alloc, &from, &lists, &places, &ring)?;
-    Ok(KeptCofactors { lists })
+    let wide = widened_lists(alloc, &from, &lists, &places, &ring)?;
+    Ok(KeptCofactors { lists: wide })
 }
 
 // The quotients of the change of an invariant fraction by the kept elements of the group's basis.

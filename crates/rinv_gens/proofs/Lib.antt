@@ -1,5 +1,5 @@
 pub mod Walks
 pub mod Tied
 pub mod Apart
-pub mod Constants
+pub mod NumberValues
 pub mod Ordered
