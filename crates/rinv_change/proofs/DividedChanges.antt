@@ -3,7 +3,8 @@
 --   divided-invariant    where nothing is left the fraction is invariant
 --   divided-stray        where something is it is not
 --   left-nothing         of an invariant fraction nothing is left
-use Rattle.std.proofs.Common.{◌≡◌, ℕ, ◌+◌, ◌≤◌, false, true, Bool, List, [], ◌∷◌, length, nat_lt, IsTrue, refl, arith}
+--   tested-none, tested-some, tested-meets, quotients-are    the same, as the calls answer it
+use Rattle.std.proofs.Common.{◌≡◌, ℕ, ◌+◌, ◌≤◌, false, true, Bool, List, [], ◌∷◌, length, nat_lt, IsTrue, refl, subst, subst₂, nat_lt, inr, arith}
 use Rattle.std.specs.Prelude.{IsFalse, nat_le}
 use Rattle.std.specs.List.{list_all}
 use Rattle.std.proofs.lemmas.Bool.{leb-true}
@@ -24,6 +25,11 @@ use Rattle.rinv_groebner.proofs.JournalBasis.{journal-basis, journal-nonzero}
 use Rattle.rinv_groebner.proofs.JournalUnique.{same_sym}
 use Rattle.rinv_groebner.proofs.KnownOrders.{grevlex_orders}
 use Rattle.rinv_groebner.proofs.ListElements.{all_first}
+use Rattle.rinv_ring.specs.Fault.{DegreesMeet}
+use Rattle.rinv_ring.specs.declared.fault.RingFault.{RingFault}
+use Rattle.rinv_poly.proofs.Meets.{meet-weaker}
+use Rattle.rinv_sub.specs.Refusal.{never}
+use Rattle.rinv_div.specs.Stops.{Divides, StepsMeet}
 use Rattle.rinv_buch.specs.Kinds.{Found}
 use Rattle.rinv_buch.proofs.InVariables.{all-in_variables}
 use Rattle.rinv_frac.specs.Fractions.{IsStored}
@@ -37,7 +43,9 @@ use Rattle.rinv_parts.specs.Points.{ArePolynomials}
 use Rattle.rinv_laws.specs.Group.{IsGroupBasis}
 use Rattle.rinv_laws.specs.Proofs.{kept_elements}
 use Rattle.rinv_laws.proofs.KeptBasis.{passes-kept, kept-basis, same-basis, divided-member, rest-congruent, rest-reduced, rest-outside}
-use Rattle.rinv_change.specs.Changes.{IsStray, change_count}
+use Rattle.rinv_change.specs.Asked.{IsChangeRing}
+use Rattle.rinv_change.specs.Changes.{ChangeMeets, IsStray, change_count}
+use Rattle.rinv_change.specs.Cofactors.{AreQuotientsOf}
 
 -- what is written in some variables is written in these and further ones
 wider : (v n : ℕ) (f : Poly) → IsTrue (is_in_variables v f) → IsTrue (is_in_variables (v + n) f)
@@ -124,3 +132,52 @@ module _ (s : System) (found : Found ℕ) (reduced : List Poly) (system : IsSyst
         go : (b : Bool) → (b ≡ false → ⊥) → b ≡ true
         go true h = refl
         go false h = absurd (h refl)
+
+-- ---- as the calls answer it
+
+-- a test is made of this fraction, over these polynomials and in a ring with these numbers
+pub record TestedBy (s : System) (found : Found ℕ) (f : Fraction) (p v : ℕ) (g : Poly) (hs others : List Poly) : Type 0 where
+  pub ring : IsChangeRing s p v
+  pub change : IsSame (poly_ops (residue_ops s.p)) g (change s f)
+  pub alike : AreSame (residue_ops s.p) hs (kept_elements s found)
+  pub normal : ArePolynomials s.p (change_count s) hs
+  pub same : others ≡ hs
+
+module _ (s : System) (found : Found ℕ) (reduced : List Poly) (group : IsGroupBasis s found reduced) (f : Fraction) (is_stored : IsStored s.p (space_count s) f) (p v : ℕ) (g : Poly) (hs others : List Poly) (t : TestedBy s found f p v g hs others) where
+  division : (steps : List (Step ℕ)) (rest : Poly) → IsDivision (residue_ops p) grevlex others g steps rest → IsDivision (residue_ops s.p) grevlex hs g steps rest
+  division steps rest d = subst₂ (λ (q : ℕ) (gs : List Poly). IsDivision (residue_ops q) grevlex gs g steps rest) t.ring.field t.same d
+
+  -- nothing is left
+  pub tested-none : (steps : List (Step ℕ)) (rest : Poly) → IsDivision (residue_ops p) grevlex others g steps rest → is_zero (residue_ops p) rest ≡ true → IsInvariant s f
+  tested-none steps rest d z =
+      divided-invariant s found reduced t.ring.system group f is_stored g hs t.change t.alike t.normal steps rest (division steps rest d) (subst (λ (q : ℕ). is_zero (residue_ops q) rest ≡ true) t.ring.field z)
+
+  -- something is
+  pub tested-some : (steps : List (Step ℕ)) (rest : Poly) → IsDivision (residue_ops p) grevlex others g steps rest → IsNormal (residue_ops p) (λ c. nat_lt c p) v rest → is_zero (residue_ops p) rest ≡ false → IsStray s f rest
+  tested-some steps rest d normal n =
+      divided-stray s found reduced t.ring.system group f is_stored g hs t.change t.alike t.normal steps rest (division steps rest d)
+      (subst₂ (λ (q w : ℕ). IsNormal (residue_ops q) (λ c. nat_lt c q) w rest) t.ring.field t.ring.vars normal) (subst (λ (q : ℕ). is_zero (residue_ops q) rest ≡ false) t.ring.field n)
+
+  -- the division meets degrees
+  pub tested-meets : (fault : RingFault) → DegreesMeet (StepsMeet (residue_ops p) grevlex others g (λ c. nat_lt c p) never) fault → DegreesMeet (ChangeMeets s found f) fault
+  tested-meets fault meets = meet-weaker (StepsMeet (residue_ops p) grevlex others g (λ c. nat_lt c p) never) (ChangeMeets s found f) (λ x y m. inr (record {
+    g = g;
+    hs = hs;
+    asked = record { change = t.change; basis = t.alike };
+    meets = subst₂ (λ (q : ℕ) (gs : List Poly). StepsMeet (residue_ops q) grevlex gs g (λ c. nat_lt c q) never x y) t.ring.field t.same m;
+  })) fault meets
+
+  -- the quotients of an invariant fraction
+  pub quotients-are : IsInvariant s f → (qs : List Poly) (rest : Poly) (steps : List (Step ℕ)) → Divides (residue_ops p) grevlex others g qs rest steps → ArePolynomials p v qs → AreQuotientsOf s found f qs
+  quotients-are invariant qs rest steps d normal = record {
+    normal = subst₂ (λ (q w : ℕ). ArePolynomials q w qs) t.ring.field t.ring.vars normal;
+    rest = rest;
+    divides = record {
+      g = g;
+      hs = hs;
+      asked = record { change = t.change; basis = t.alike };
+      steps = steps;
+      divides = subst₂ (λ (q : ℕ) (gs : List Poly). Divides (residue_ops q) grevlex gs g qs rest steps) t.ring.field t.same d;
+    };
+    nothing = left-nothing s found reduced t.ring.system group f is_stored g hs t.change t.alike t.normal steps rest (division steps rest d.is_division) invariant;
+  }
