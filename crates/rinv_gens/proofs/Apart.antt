@@ -1,8 +1,9 @@
 -- Fractions whose products have different leading monomials have different values.
 --   value-is             when two fractions have one value
 --   apart                by their leading monomials
+--   products-apart       products that differ at a variable
 --   one-pair             fractions with the same parts have one value
-use Rattle.std.proofs.Common.{◌≡◌, ℕ, Bool, true, false, List, [], ◌∷◌, refl, sym, ◌∙◌, subst, subst₂, nat_lt, true≢false, IsTrue}
+use Rattle.std.proofs.Common.{◌≡◌, ℕ, ◌+◌, get_or, Bool, true, false, List, [], ◌∷◌, refl, sym, ◌∙◌, subst, subst₂, nat_lt, true≢false, IsTrue}
 use Rattle.std.proofs.lemmas.List.Elements.{All-cons, All-nil}
 use Rattle.rinv_algebra.specs.Ring.{IsSame}
 use Rattle.rinv_algebra.specs.Residue.{residue_ops}
@@ -12,6 +13,7 @@ use Rattle.rinv_algebra.specs.Polynomial.{poly_ops, product, same, is_zero}
 use Rattle.rinv_algebra.specs.Leading.{leading_monomial}
 use Rattle.rinv_algebra.specs.Normal.{IsNormal, is_in_variables}
 use Rattle.rinv_algebra.proofs.Same.{both}
+use Rattle.rinv_algebra.proofs.MonomialLaws.{get_or-product, same_at}
 use Rattle.rinv_algebra.proofs.PolynomialLaws.{poly_laws}
 use Rattle.rinv_algebra.proofs.ResidueField.{residue_field_laws}
 use Rattle.rinv_algebra.proofs.ResidueLaws.{residue_laws}
@@ -85,3 +87,18 @@ module _ (p v : ℕ) where
       let o = residue_ops p in
       let laws = poly_laws o (residue_laws p) in
       value-is p f g a.nonzero b.nonzero ∙ facts.mul2 (poly_ops o) laws n (laws.same_sym f.1 g.1 d)
+
+-- ---- as the calls answer it
+
+-- products that differ at a variable are different
+pub products-apart : (a b c d : List ℕ) (k : ℕ) → ¬ (get_or a k 0 + get_or b k 0 ≡ get_or c k 0 + get_or d k 0) → same_monomial (monomial_product a b) (monomial_product c d) ≡ false
+products-apart a b c d k differ = go (same_monomial (monomial_product a b) (monomial_product c d)) (λ e. differ (sym (get_or-product a b k) ∙ same_at (monomial_product a b) (monomial_product c d) e k ∙ get_or-product c d k))
+  where
+    go : (r : Bool) → (r ≡ true → ⊥) → r ≡ false
+    go true h = absurd (h refl)
+    go false h = refl
+
+-- fractions whose parts compare as the same
+pub pair-answer : (base first second : PolyRing (Gf Global) ℕ) (f g : Fraction) (n m d e : Poly) → first ≡ base → second ≡ base → n ≡ f.0 → m ≡ g.0 → d ≡ f.1 → e ≡ g.1 → IsStored base.coeffs base.vars f → IsStored base.coeffs base.vars g
+    → same (residue_ops first.coeffs) n m ≡ true → same (residue_ops second.coeffs) d e ≡ true → (rational_ops base.coeffs).same f g ≡ true
+pair-answer base first second f g n m d e a b i j k l hf hg s t = one-pair base.coeffs base.vars f g hf hg (rw (← a, ← i, ← j) s) (rw (← b, ← k, ← l) t)

@@ -56,7 +56,7 @@ fn are_apart(field: &FracRing, a: &Frac, b: &Frac) -> bool
     let d = lead(ring, field.den(a));
     let m = lead(ring, field.num(b));
     let e = lead(ring, field.den(b));
-    !are_products_alike(n, e, m, d)
+    are_products_apart(n, e, m, d)
 }
 
 // The leading monomial of a polynomial that is not zero.
@@ -70,19 +70,21 @@ fn lead<'a>(ring: &PolyRing<Gf>, f: &'a KPoly) -> &'a Mono
     lead
 }
 
-// Whether the products of the first two monomials and of the last two are the same.
-fn are_products_alike(a: &Mono, b: &Mono, c: &Mono, d: &Mono) -> bool
+// Whether the products of the first two monomials and of the last two are different.
+fn are_products_apart(a: &Mono, b: &Mono, c: &Mono, d: &Mono) -> bool
     requires second { length b.now ≡ length a.now }
     requires third { length c.now ≡ length a.now }
     requires fourth { length d.now ≡ length a.now }
-    ensures { result ≡ same_monomial (monomial_product a.now b.now) (monomial_product c.now d.now) }
+    ensures { result ≡ true → same_monomial (monomial_product a.now b.now) (monomial_product c.now d.now) ≡ false }
 {
     'variables: for k in 0..a.vars() {
-        if a.exponent(k) + b.exponent(k) != c.exponent(k) + d.exponent(k) {
-            return false;
+        let first = u64::from(a.exponent(k)) + u64::from(b.exponent(k));
+        let second = u64::from(c.exponent(k)) + u64::from(d.exponent(k));
+        if first != second {
+            return true;
         }
     }
-    true
+    false
 }
 
 // Whether the two have the same numerator and the same denominator.
@@ -92,11 +94,11 @@ fn are_one_pair(field: &FracRing, alloc: Global, a: &Frac, b: &Frac) -> Result<b
     ensures { IfOk result (λ r. r ≡ true → (rational_ops field.now.base.coeffs).same a.now b.now ≡ true) }
 {
     let numerators = are_same(field.base(), alloc, field.num(a), field.num(b))?;
-    if !numerators {
-        return Ok(false);
+    if numerators {
+        let denominators = are_same(field.base(), alloc, field.den(a), field.den(b))?;
+        return Ok(denominators);
     }
-    let denominators = are_same(field.base(), alloc, field.den(a), field.den(b))?;
-    Ok(denominators)
+    Ok(false)
 }
 
 /// Whether two polynomials are the same.

@@ -1,4 +1,4 @@
-use Rattle.std.proofs.Common.{◌≡◌, ℕ, nat_lt, sym, subst₂}
+use Rattle.std.proofs.Common.{◌≡◌, ◌∙◌, ℕ, nat_lt, sym, subst₂}
 use Rattle.std.proofs.lemmas.Result.{err_from_is_err_and}
 use Rattle.rinv_algebra.specs.Order.{grevlex}
 use Rattle.rinv_algebra.specs.Residue.{residue_ops}
@@ -29,3 +29,23 @@ returns-in_err-rest-clause-degree c =
     let t : TestedBy s found c.args.f.now asked.ring.coeffs asked.ring.vars asked.change asked.basis.polys.items c.deref.result.now = record { ring = a.ring; change = a.change.value; alike = a.basis.same; normal = a.basis.normal; same = c.deref.ensures.value } in
     let q = err_from_is_err_and c.from_residual-in_err-rest.result c.from_residual-in_err-rest.ensures.1 in
     rw (q.1, q.2) (tested-meets s found c.args.group.now.reduced.items c.requires.group c.args.f.now c.requires.fraction asked.ring.coeffs asked.ring.vars asked.change asked.basis.polys.items c.deref.result.now t c.in_err-rest.field-0.0 c.in_err-rest.ensures.degree)
+
+pub returns-then-is_zero-clause-exact : goal.returns-then-is_zero-clause-exact
+returns-then-is_zero-clause-exact c =
+    let a = c.in_ok-asked.ensures in
+    let asked = c.in_ok-asked.asked in
+    let s = c.args.system.now.system in
+    let found = c.args.group.now.basis in
+    let t : TestedBy s found c.args.f.now asked.ring.coeffs asked.ring.vars asked.change asked.basis.polys.items c.deref.result.now = record { ring = a.ring; change = a.change.value; alike = a.basis.same; normal = a.basis.normal; same = c.deref.ensures.value } in
+    let d = c.in_ok-rest.ensures in
+    tested-none s found c.args.group.now.reduced.items c.requires.group c.args.f.now c.requires.fraction asked.ring.coeffs asked.ring.vars asked.change asked.basis.polys.items c.deref.result.now t d.division.0 c.in_ok-rest.rest d.division.1 (sym c.is_zero.ensures ∙ c.if-is_zero.true)
+
+pub returns-clause-exact : goal.returns-clause-exact
+returns-clause-exact c =
+    let a = c.in_ok-asked.ensures in
+    let asked = c.in_ok-asked.asked in
+    let s = c.args.system.now.system in
+    let found = c.args.group.now.basis in
+    let t : TestedBy s found c.args.f.now asked.ring.coeffs asked.ring.vars asked.change asked.basis.polys.items c.deref.result.now = record { ring = a.ring; change = a.change.value; alike = a.basis.same; normal = a.basis.normal; same = c.deref.ensures.value } in
+    let d = c.in_ok-rest.ensures in
+    tested-some s found c.args.group.now.reduced.items c.requires.group c.args.f.now c.requires.fraction asked.ring.coeffs asked.ring.vars asked.change asked.basis.polys.items c.deref.result.now t d.division.0 c.in_ok-rest.rest d.division.1 d.rest (sym c.is_zero.ensures ∙ c.if-is_zero.false)

@@ -1,0 +1,9 @@
+use Rattle.std.proofs.Common.{◌≡◌, ◌∙◌, sym}
+use Rattle.rinv_gens.proofs.Apart.{pair-answer}
+use Rattle.rinv_gens.proofs.comparing.are_one_pair.Goals as goal
+
+pub returns-then-numerators : goal.returns-then-numerators
+returns-then-numerators c = λ e.
+    pair-answer c.args.field.now.base c.base.result.now c.base-then-numerators.result.now c.args.a.now c.args.b.now c.num.result.now c.num-2.result.now c.den.result.now c.den-then-numerators.result.now
+    c.base.ensures c.base-then-numerators.ensures c.num.ensures c.num-2.ensures c.den.ensures c.den-then-numerators.ensures c.requires.left c.requires.right
+    (sym c.in_ok-numerators.ensures ∙ c.if-numerators.true) (sym c.in_ok-denominators.ensures ∙ e)
