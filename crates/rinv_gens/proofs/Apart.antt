@@ -99,6 +99,6 @@ products-apart a b c d k differ = go (same_monomial (monomial_product a b) (mono
     go false h = refl
 
 -- fractions whose parts compare as the same
-pub pair-answer : (base first second : PolyRing (Gf Global) ℕ) (f g : Fraction) (n m d e : Poly) → first ≡ base → second ≡ base → n ≡ f.0 → m ≡ g.0 → d ≡ f.1 → e ≡ g.1 → IsStored base.coeffs base.vars f → IsStored base.coeffs base.vars g
-    → same (residue_ops first.coeffs) n m ≡ true → same (residue_ops second.coeffs) d e ≡ true → (rational_ops base.coeffs).same f g ≡ true
-pair-answer base first second f g n m d e a b i j k l hf hg s t = one-pair base.coeffs base.vars f g hf hg (rw (← a, ← i, ← j) s) (rw (← b, ← k, ← l) t)
+pub pair-answer : (p q r v : ℕ) (f g : Fraction) (n m d e : Poly) → q ≡ p → r ≡ p → n ≡ f.0 → m ≡ g.0 → d ≡ f.1 → e ≡ g.1 → IsStored p v f → IsStored p v g
+    → same (residue_ops q) n m ≡ true → same (residue_ops r) d e ≡ true → (rational_ops p).same f g ≡ true
+pair-answer p q r v f g n m d e a b i j k l hf hg s t = one-pair p v f g hf hg (rw (← a, ← i, ← j) s) (rw (← b, ← k, ← l) t)

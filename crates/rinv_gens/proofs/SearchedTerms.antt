@@ -2,7 +2,7 @@
 --   IsPassed, passed-more    the first terms have other monomials
 --   found-element, found-coefficient    the term that has it
 --   none-found           no term has it
-use Rattle.std.proofs.Common.{◌≡◌, ◌<◌, ◌≤◌, ◌+◌, ◌==◌, ℕ, zero, suc, Bool, true, false, List, [], ◌∷◌, length, get_or, refl, sym, ap, ◌∙◌, subst, inl, inr, nat_lt, arith, All}
+use Rattle.std.proofs.Common.{◌≡◌, ◌<◌, ◌≤◌, ◌+◌, ◌==◌, ℕ, zero, suc, Bool, true, false, List, [], ◌∷◌, length, get_or, refl, sym, ap, ◌∙◌, subst, inl, inr, nat_lt, arith, true≢false, All}
 use Rattle.std.specs.Ordering.{ordering_index, is_eq}
 use Rattle.std.specs.declared.cmp.Ordering.{Ordering}
 use Rattle.std.proofs.lemmas.Bool.{cases_lt, cases_Bool}
@@ -30,10 +30,7 @@ compared-equal a b x r is e h = lex_equal a b (ap is_eq (sym is) ∙ is_eq_index
 
 -- and others are not
 pub compared-other : (a b : List ℕ) (x : Ordering) (r : Bool) → x ≡ lex a b → r ≡ (ordering_index x == 1) → r ≡ false → ¬ (a ≡ b)
-compared-other a b x r is e h same = differ (sym (ap is_eq (lex_itself b)) ∙ ap (λ (m : List ℕ). is_eq (lex m b)) (sym same) ∙ ap is_eq (sym is) ∙ is_eq_index x ∙ sym e ∙ h)
-  where
-    differ : true ≡ false → ⊥
-    differ k = absurd k
+compared-other a b x r is e h same = true≢false (sym (ap is_eq (lex_itself b)) ∙ ap (λ (m : List ℕ). is_eq (lex m b)) (sym same) ∙ ap is_eq (sym is) ∙ is_eq_index x ∙ sym e ∙ h)
 
 -- the first k terms have other monomials
 abbrev pub IsPassed : List ℕ → Poly → ℕ → Type 0
@@ -52,7 +49,7 @@ module _ (p v : ℕ) (f : Poly) (normal : IsNormal (residue_ops p) (λ c. nat_lt
     found-element =
         let t : Term ℕ = (a, c) in
         let term = (ordered-from_normal (residue_ops p) (λ c. nat_lt c p) v f normal).terms k t few in
-        let low : nat_lt c p ≡ true = subst (λ (n : ℕ). nat_lt n p ≡ true) (sym (number t)) term.element in
+        let low : nat_lt c p ≡ true = subst (λ (n : ℕ). nat_lt n p ≡ true) (sym (number t)) term.coefficient in
         grind (arith, nat_tests, low)
 
     pub found-coefficient : a ≡ m → IsSame (residue_ops p) c (coefficient (residue_ops p) f m)

@@ -13,7 +13,7 @@ use rinv_buch::leading_term;
 use rinv_frac::{Frac, FracRing};
 use rinv_mono::{Grevlex, Mono};
 use rinv_poly::{KPoly, PolyRing};
-use rinv_ring::{Gf, NoMemory, Ring};
+use rinv_ring::{Field, Gf, NoMemory, Ring, RingFault};
 use std::alloc::Global;
 use std::cmp::Ordering;
 
@@ -33,7 +33,10 @@ pub(crate) fn constant_of(
     let (num, den) = (field.num(c), field.den(c));
     let (lead, d) = leading_term(ring, den, &Grevlex);
     let n = coefficient_at(ring, num, lead);
-    let value = quotient(ring.coeffs(), n, *d);
+    // Products of numbers modulo a prime are refused for memory alone.
+    let Ok(value) = quotient(ring.coeffs(), alloc, &n, d) else {
+        return Err(NoMemory);
+    };
     let multiple = multiple(ring, alloc, value, den)?;
     let is_value = are_same(ring, alloc, &multiple, num)?;
     Ok(is_value.then_some(value))
@@ -55,18 +58,24 @@ fn coefficient_at(ring: &PolyRing<Gf>, f: &KPoly, mono: &Mono) -> u32
     0
 }
 
-// The number by which the second is multiplied to give the first.
-fn quotient(field: &Gf, n: u32, d: u32) -> u32
-    requires dividend { n < field.now }
-    requires divisor { d < field.now }
-    requires nonzero { (residue_ops field.now).same d (residue_ops field.now).zero ≡ false }
-    ensures element { result < field.now }
-    ensures value { IsSame (residue_ops field.now) ((residue_ops field.now).mul result d) n }
+// The element by which the second is multiplied to give the first.
+fn quotient<F: Field>(
+    field: &F,
+    alloc: Global,
+    n: &F::Elem,
+    d: &F::Elem,
+) -> Result<F::Elem, RingFault>
+    requires dividend { IsTrue (F.is_element field.now n.now) }
+    requires divisor { IsTrue (F.is_element field.now d.now) }
+    requires nonzero { (F.ops field.now).same d.now (F.ops field.now).zero ≡ false }
+    ensures element { IfOk result (λ q. IsTrue (F.is_element field.now q)) }
+    ensures value { IfOk result (λ q. IsSame (F.ops field.now) ((F.ops field.now).mul q d.now) n.now) }
 {
-    match field.inverse(d) {
-        Some(inverse) => field.mul(n, inverse),
-        None => unreachable!(),
-    }
+    let Some(inverse) = field.inverse(alloc, d)? else {
+        unreachable!()
+    };
+    let quotient = field.mul(alloc, n, &inverse)?;
+    Ok(quotient)
 }
 
 // The number times the polynomial.
