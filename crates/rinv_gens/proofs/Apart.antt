@@ -2,6 +2,7 @@
 --   value-is             when two fractions have one value
 --   apart                by their leading monomials
 --   products-apart       products that differ at a variable
+--   pair-answer, numerator-nonzero, nonzero-over, lead-over, apart-answer    in a ring of its own
 --   one-pair             fractions with the same parts have one value
 use Rattle.std.proofs.Common.{◌≡◌, ℕ, ◌+◌, get_or, Bool, true, false, List, [], ◌∷◌, refl, sym, ◌∙◌, subst, subst₂, nat_lt, true≢false, IsTrue}
 use Rattle.std.proofs.lemmas.List.Elements.{All-cons, All-nil}
@@ -30,6 +31,7 @@ use Rattle.rinv_groebner.proofs.KnownOrders.{grevlex_orders}
 use Rattle.rinv_buch.proofs.InVariables.{all-in_variables}
 use Rattle.rinv_frac.specs.Fractions.{IsStored}
 use Rattle.rinv_frac.proofs.Stored.{stored}
+use Rattle.rinv_frac.proofs.Values.{zero-value}
 use Rattle.rinv_defs.specs.System.{Poly}
 use Rattle.rinv_defs.specs.Invariant.{Fraction}
 use Rattle.rinv_defs.specs.Generators.{rational_ops}
@@ -102,3 +104,19 @@ products-apart a b c d k differ = go (same_monomial (monomial_product a b) (mono
 pub pair-answer : (p q r v : ℕ) (f g : Fraction) (n m d e : Poly) → q ≡ p → r ≡ p → n ≡ f.0 → m ≡ g.0 → d ≡ f.1 → e ≡ g.1 → IsStored p v f → IsStored p v g
     → same (residue_ops q) n m ≡ true → same (residue_ops r) d e ≡ true → (rational_ops p).same f g ≡ true
 pair-answer p q r v f g n m d e a b i j k l hf hg s t = one-pair p v f g hf hg (rw (← a, ← i, ← j) s) (rw (← b, ← k, ← l) t)
+
+-- a fraction that is not zero has a numerator
+pub numerator-nonzero : (p v : ℕ) (f : Fraction) (r : Bool) → IsStored p v f → r ≡ (rational_ops p).same f (rational_ops p).zero → r ≡ false → is_zero (residue_ops p) f.0 ≡ false
+numerator-nonzero p v f r h is e = sym (zero-value (residue_ops p) (residue_laws p) f (stored p v f h).nonzero) ∙ sym is ∙ e
+
+-- in a ring of its own
+pub nonzero-over : (p q : ℕ) (f g : Poly) → q ≡ p → f ≡ g → is_zero (residue_ops p) g ≡ false → is_zero (residue_ops q) f ≡ false
+nonzero-over p q f g a b h = rw (a, b) h
+
+pub lead-over : (p q : ℕ) (f g : Poly) (m : List ℕ) → q ≡ p → f ≡ g → m ≡ leading_monomial (residue_ops q) grevlex f → m ≡ leading_monomial (residue_ops p) grevlex g
+lead-over p q f g m a b h = rw (← a, ← b) h
+
+pub apart-answer : (p v : ℕ) (f g : Fraction) → IsStored p v f → IsStored p v g → is_zero (residue_ops p) f.0 ≡ false → is_zero (residue_ops p) g.0 ≡ false → (n e m d : List ℕ)
+    → n ≡ leading_monomial (residue_ops p) grevlex f.0 → e ≡ leading_monomial (residue_ops p) grevlex g.1 → m ≡ leading_monomial (residue_ops p) grevlex g.0 → d ≡ leading_monomial (residue_ops p) grevlex f.1
+    → same_monomial (monomial_product n e) (monomial_product m d) ≡ false → (rational_ops p).same f g ≡ false
+apart-answer p v f g hf hg nf ng n e m d a b i j h = apart p v f g hf hg nf ng (rw (← a, ← b, ← i, ← j) h)

@@ -39,7 +39,7 @@ pub(crate) fn constant_of(
     };
     let multiple = multiple(ring, alloc, value, den)?;
     let is_value = are_same(ring, alloc, &multiple, num)?;
-    Ok(is_value.then_some(value))
+    if is_value { Ok(Some(value)) } else { Ok(None) }
 }
 
 // The coefficient of the polynomial at the monomial.

@@ -5,7 +5,7 @@ ghost use Rattle.rinv_defs.specs.Generators.{rational_ops};
 ghost use Rattle.rinv_ring.specs.Fault.{DegreesMeet};
 ghost use Rattle.rinv_frac.specs.Fractions.{IsStored};
 ghost use Rattle.rinv_tails.specs.Stored.{IsStoredRelation};
-ghost use Rattle.rinv_coefficients.specs.Coefficients.{is_among, new_values};
+ghost use Rattle.rinv_coefficients.specs.Coefficients.{is_among, is_constant, new_values};
 ghost use Rattle.rinv_coefficients.specs.Ties.{HasValueOf, Ties};
 ghost use Rattle.rinv_gens.specs.Numbering.{AmongMeets, WalkMeets, with_new};
 ghost use Rattle.rinv_gens.specs.Symbols.{tied_of};
@@ -43,7 +43,7 @@ pub(crate) fn tied(
     Ok(Relation { lead, tail })
 }
 
-// What the fraction is tied to: the number that is its value, or the generator that has its value, or else a new one.
+// What the fraction is tied to: the number that is its value, or else a generator.
 fn symbol_of(
     field: &FracRing,
     alloc: Global,
@@ -56,15 +56,40 @@ fn symbol_of(
     ensures tied { IfOk result (λ s. HasValueOf field.now.base.coeffs fractions.new.items (tied_of s) c.now) }
     ensures degree { IfErr result (DegreesMeet (AmongMeets field.now.base.coeffs fractions.old.items c.now)) }
 {
-    if let Some(value) = constant_of(field, alloc, c)? {
-        return Ok(Symbol::Constant(value));
+    let constant = constant_of(field, alloc, c)?;
+    match constant {
+        Some(value) => Ok(Symbol::Constant(value)),
+        None => {
+            let symbol = generator_of(field, alloc, c, fractions)?;
+            Ok(symbol)
+        }
     }
-    if let Some(place) = place_of(field, alloc, fractions, c)? {
-        return Ok(Symbol::Generator(place + 1));
+}
+
+// The generator that has the value of the fraction, which is no number; a new one where there is none.
+fn generator_of(
+    field: &FracRing,
+    alloc: Global,
+    c: &Frac,
+    fractions: &mut Vec<Frac>,
+) -> Result<Symbol, RingFault>
+    requires fraction { IsStored field.now.base.coeffs field.now.base.vars c.now }
+    requires earlier { All (IsStored field.now.base.coeffs field.now.base.vars) fractions.old.items }
+    requires no_number { is_constant field.now.base.coeffs c.now ≡ false }
+    ensures fractions { OnOk result (fractions.new.items ≡ with_new field.now.base.coeffs fractions.old.items c.now) }
+    ensures tied { IfOk result (λ s. HasValueOf field.now.base.coeffs fractions.new.items (tied_of s) c.now) }
+    ensures degree { IfErr result (DegreesMeet (AmongMeets field.now.base.coeffs fractions.old.items c.now)) }
+{
+    let _count = fractions.len();
+    let place = place_of(field, alloc, fractions, c)?;
+    match place {
+        Some(place) => Ok(Symbol::Generator(place + 1)),
+        None => {
+            let copy = field.copy(alloc, c)?;
+            fractions.push(copy)?;
+            Ok(Symbol::Generator(fractions.len()))
+        }
     }
-    let copy = field.copy(alloc, c)?;
-    fractions.push(copy)?;
-    Ok(Symbol::Generator(fractions.len()))
 }
 
 // The place of the first of the fractions that has the value of another.
