@@ -1,6 +1,7 @@
 -- Which number is the value of a fraction, if one is.
 --   scale-coefficient    the coefficients of a multiple
 --   value-constant       a numerator that is the multiple of the denominator
+--   number-found, number-missed    the same, in a ring of its own
 --   no-constant          where it is not the multiple by the quotient of two coefficients, no number is the value
 use Rattle.std.proofs.Common.{◌≡◌, ◌<◌, ℕ, Bool, true, false, List, [], ◌∷◌, ◌++◌, refl, sym, ap, ◌∙◌, subst, append-nil, get_or, true≢false}
 use Rattle.std.specs.List.{list_any, range_with_len}
@@ -16,6 +17,10 @@ use Rattle.rinv_algebra.proofs.ResidueLaws.{residue_laws}
 use Rattle.rinv_algebra.proofs.RingFacts as facts
 use Rattle.rinv_poly.proofs.Cancelling.{multiple-same}
 use Rattle.rinv_poly.proofs.Taking.{multiple-coefficient}
+use Rattle.rinv_algebra.specs.Leading.{leading_coefficient, leading_monomial}
+use Rattle.rinv_algebra.specs.Order.{grevlex}
+use Rattle.rinv_frac.specs.Fractions.{IsStored}
+use Rattle.rinv_frac.proofs.Stored.{stored}
 use Rattle.rinv_frac.proofs.CancelledValues.{one_nonzero}
 use Rattle.rinv_defs.specs.System.{Poly}
 use Rattle.rinv_defs.specs.Invariant.{Fraction}
@@ -93,3 +98,24 @@ module _ (p : ℕ) (n d : Poly) (nonzero : is_zero (residue_ops p) d ≡ false) 
             let whole = is-multiple c h in
             let alike : same o multiple n ≡ true = facts.then (poly_ops o) laws is (facts.then (poly_ops o) laws (multiple-same o (residue_laws p) [] q c d (only c whole)) (laws.same_sym n (scale o c d) whole)) in
             absurd (true≢false (sym alike ∙ e))
+
+-- ---- as the call answers it: in a ring of its own
+
+pub number-found : (p q v : ℕ) (f : Fraction) (num den multiple : Poly) (value : ℕ) → q ≡ p → num ≡ f.0 → den ≡ f.1 → IsStored p v f → IsSame (poly_ops (residue_ops q)) multiple (scale (residue_ops q) value den)
+    → same (residue_ops q) multiple num ≡ true → IsSame (rational_ops p) f (over_1 p (constant (residue_ops p) value))
+number-found p q v (n, d) num den multiple value a b e h is s = value-constant p n d (stored p v (n, d) h).nonzero value multiple (rw (← a, ← e) is) (rw (← a, ← b) s)
+
+-- the numbers with which it was sought
+pub record IsSought (p : ℕ) (num den : Poly) (m : List ℕ) (a b value : ℕ) : Type 0 where
+  pub lead : m ≡ leading_monomial (residue_ops p) grevlex den
+  pub above : IsSame (residue_ops p) a (coefficient (residue_ops p) num m)
+  pub below : IsSame (residue_ops p) b (leading_coefficient (residue_ops p) grevlex den)
+  pub nonzero : (residue_ops p).same b (residue_ops p).zero ≡ false
+  pub quotient : IsSame (residue_ops p) ((residue_ops p).mul value b) a
+
+pub number-missed : (p q v : ℕ) (f : Fraction) (num den multiple : Poly) (m : List ℕ) (a b value : ℕ) → q ≡ p → num ≡ f.0 → den ≡ f.1 → IsStored p v f → IsSought q num den m a b value → IsSame (poly_ops (residue_ops q)) multiple (scale (residue_ops q) value den)
+    → same (residue_ops q) multiple num ≡ false → is_constant p f ≡ false
+number-missed p q v (n, d) num den multiple m a b value x y z h sought is s =
+    let own : IsSought p n d m a b value = rw (← x, ← y, ← z) sought in
+    no-constant p n d (stored p v (n, d) h).nonzero m a b value own.above
+    (subst (λ (e : List ℕ). IsSame (residue_ops p) b (coefficient (residue_ops p) d e)) (sym own.lead) own.below) own.nonzero own.quotient multiple (rw (← x, ← z) is) (rw (← x, ← y) s)

@@ -4,10 +4,11 @@
 --   walk-meets, walk-within    the degrees that it meets
 --   among-more           among one more
 --   coefficients-more, coefficients-parts, walk-relation    one relation more
-use Rattle.std.proofs.Common.{◌≡◌, ℕ, ◌+◌, ◌<◌, ◌||◌, Bool, true, false, List, [], ◌∷◌, ◌++◌, length, get_or, map, take, drop, refl, sym, ap, ◌∙◌, subst, subst₂, append-nil, append_assoc, arith}
-use Rattle.std.specs.Prelude.{if◌then◌else◌, flat_map, Contains}
+use Rattle.std.proofs.Common.{◌≡◌, ℕ, ◌+◌, ◌<◌, ◌||◌, Bool, true, false, List, [], ◌∷◌, ◌++◌, length, get_or, map, take, drop, refl, sym, ap, ◌∙◌, subst, subst₂, append-nil, append_assoc, All}
+use Rattle.std.specs.Prelude.{if◌then◌else◌}
 use Rattle.std.specs.List.{list_any}
 use Rattle.std.proofs.lemmas.List.{take-append-drop}
+use Rattle.std.proofs.lemmas.List.Elements.{All-push}
 use Rattle.rinv_sub.proofs.Sums.{take-at}
 use Rattle.rinv_defs.specs.Generators.{rational_ops}
 use Rattle.rinv_defs.specs.Invariant.{Fraction}
@@ -36,6 +37,19 @@ module _ (p : ℕ) where
       go true = new-append cs xs ys
       go false = ap (λ (ds : List Fraction). x ∷ ds) (new-append (cs ++ x ∷ []) xs ys
           ∙ ap (λ (ds : List Fraction). new_values p (cs ++ x ∷ []) xs ++ new_values p ds ys) (append_assoc cs (x ∷ []) (new_values p (cs ++ x ∷ []) xs)))
+
+  -- of none
+  pub new-none : (cs : List Fraction) → cs ≡ cs ++ new_values p cs []
+  unfolding new_values
+  new-none cs = sym (append-nil cs)
+
+  -- what all have, the new ones have
+  pub all-with : (P : Fraction → Type 0) (cs : List Fraction) (c : Fraction) → All P cs → P c → All P (with_new p cs c)
+  all-with P cs c all own = go (is_constant p c || is_among p cs c)
+    where
+      go : (b : Bool) → All P (if b then cs else cs ++ c ∷ [])
+      go true = all
+      go false = All-push P cs c all own
 
   -- of one fraction
   pub new-one : (cs : List Fraction) (c : Fraction) → cs ++ new_values p cs (c ∷ []) ≡ with_new p cs c

@@ -36,8 +36,8 @@ pub(crate) fn tied(
     'terms: for k in 0..relation.tail.len() {
         let (mono, coefficient) = &relation.tail[k];
         let symbol = symbol_of(field, alloc, coefficient, fractions)?;
-        let mono = mono.copy(alloc)?;
-        tail.push((mono, symbol))?;
+        let exponents = mono.copy(alloc)?;
+        tail.push((exponents, symbol))?;
     }
     let lead = relation.lead.copy(alloc)?;
     Ok(Relation { lead, tail })
