@@ -4,3 +4,6 @@ pub mod Apart
 pub mod NumberValues
 pub mod SearchedTerms
 pub mod Ordered
+pub mod MetBudgets
+pub mod Within
+pub mod Halted

@@ -1,12 +1,13 @@
 //! From a system to its generators.
 
-ghost use Rattle.std.specs.Prelude.{IfOk, IfErr};
+ghost use Rattle.std.specs.Prelude.{◌≡◌, IfOk, IfErr};
 ghost use Rattle.rinv_defs.specs.SystemForm.{IsSystem};
 ghost use Rattle.rinv_defs.specs.Laws.{AllLawsHold};
+ghost use Rattle.rinv_text.specs.Told.{Told};
 ghost use Rattle.rinv_gens.specs.Found.{ArePieces};
 ghost use Rattle.rinv_gens.specs.Halts.{GenStopsSo};
 ghost use Rattle.rinv_gens.specs.Runs.{BothEnd};
-ghost use Rattle.rinv_gens.specs.Stopped.{RelationsStopSo};
+ghost use Rattle.rinv_gens.specs.Stopped.{HaltsAfterRuns, RelationsStopSo};
 
 use crate::kinds::{Findings, GenStop, Phase};
 use crate::numbering::Numbered;
@@ -34,7 +35,13 @@ pub fn pieces(alloc: Global, system: &System) -> Result<Findings, GenStop>
 }
 
 // All that was found.
-fn put_together(runs: Runs, related: Related) -> Findings {
+fn put_together(runs: Runs, related: Related) -> Findings
+    ensures group { result.group ≡ runs.group }
+    ensures action { result.action ≡ runs.action }
+    ensures monic { result.monic ≡ related.monic }
+    ensures relations { result.relations.items ≡ related.numbered.relations.items }
+    ensures fractions { result.fractions.items ≡ related.numbered.fractions.items }
+{
     let Runs { group, action } = runs;
     let Related { monic, numbered } = related;
     let Numbered {
@@ -67,7 +74,9 @@ fn stopped(runs: Runs, stop: RelationStop) -> GenStop
 }
 
 // A halt of the phase, after both runs.
-fn halted(runs: Runs, phase: Phase, why: Why) -> GenStop {
+fn halted(runs: Runs, phase: Phase, why: Why) -> GenStop
+    ensures { HaltsAfterRuns runs phase why result }
+{
     let Runs { group, action } = runs;
     match followed(group, action.journal) {
         Ok(journal) => GenStop::Incomplete {

@@ -2,10 +2,12 @@
 //!
 //! - `pieces`: from a system to the reduced basis of its extended ideal and its generators, with no cofactors
 //! - `Findings`, `GenStop`: what was found, or why nothing is
+//! - `budgets_are_met`: what a halt says of its journal
 #![tactic(auto)]
 
 mod comparing;
 mod constants;
+pub mod counted;
 mod finding;
 mod kinds;
 mod numbering;
