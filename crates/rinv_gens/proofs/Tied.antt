@@ -8,7 +8,6 @@ use Rattle.std.specs.List.{AllZip, range_with_len}
 use Rattle.std.proofs.lemmas.List.Folds.{list_any_at}
 use Rattle.std.proofs.lemmas.List.FromFn.{length-range_with_len, get_or-range_with_len}
 use Rattle.std.proofs.lemmas.List.{get_or_append_left, get_or-append-add, get_or_default, map_push}
-use Rattle.std.proofs.lemmas.List.Elements.{AllZip-push}
 use Rattle.rinv_algebra.specs.Ring.{IsSame}
 use Rattle.rinv_algebra.specs.Residue.{residue_ops}
 use Rattle.rinv_algebra.specs.Polynomial.{constant}
@@ -23,6 +22,13 @@ use Rattle.rinv_defs.specs.Extended.{FractionPoly, Relation}
 use Rattle.rinv_coefficients.specs.Coefficients.{is_among, is_constant}
 use Rattle.rinv_coefficients.specs.Ties.{HasValueOf, TiedRelation, Ties}
 use Rattle.rinv_gens.specs.Numbering.{with_new}
+
+-- one more at the end of both lists
+zip-push : {A B : Type 0} (R : A → B → Type 0) (xs : List A) (ys : List B) (x : A) (y : B) → AllZip R xs ys → R x y → AllZip R (xs ++ x ∷ []) (ys ++ y ∷ [])
+zip-push R [] [] x y h r = (r, tt)
+zip-push R [] (b ∷ ys) x y h r = absurd h
+zip-push R (a ∷ xs) [] x y h r = absurd h
+zip-push R (a ∷ xs) (b ∷ ys) x y h r = (h.0, zip-push R xs ys x y h.1 r)
 
 module _ (p : ℕ) where
   -- with more generators
@@ -55,7 +61,7 @@ module _ (p : ℕ) where
       → k < length list → u ≡ get_or list k u → AllZip (IsTiedTerm cs) (map view made) (take k list) → IsTiedTerm next (view w) u → AllZip (IsTiedTerm next) (map view (made ++ w ∷ [])) (take (k + 1) list)
   terms-more view cs next list k u made w (ds, e) few at so_far here =
       subst₂ (AllZip (IsTiedTerm next)) (sym (map_push view made w)) (sym (take-at list k u few at))
-      (AllZip-push (IsTiedTerm next) (map view made) (take k list) (view w) u
+      (zip-push (IsTiedTerm next) (map view made) (take k list) (view w) u
       (subst (λ (fs : List Fraction). AllZip (IsTiedTerm fs) (map view made) (take k list)) (sym e) (terms-later cs ds (map view made) (take k list) so_far)) here)
 
   -- one relation more
@@ -63,7 +69,7 @@ module _ (p : ℕ) where
       → k < length list → r ≡ get_or list k r → AllZip (Ties p cs) made (take k list) → Ties p next q r → AllZip (Ties p next) (made ++ q ∷ []) (take (k + 1) list)
   relations-more cs ds next list k r made q e few at so_far here =
       subst (AllZip (Ties p next) (made ++ q ∷ [])) (sym (take-at list k r few at))
-      (AllZip-push (Ties p next) made (take k list) q r (subst (λ (fs : List Fraction). AllZip (Ties p fs) made (take k list)) (sym e) (relations-later cs ds made (take k list) so_far)) here)
+      (zip-push (Ties p next) made (take k list) q r (subst (λ (fs : List Fraction). AllZip (Ties p fs) made (take k list)) (sym e) (relations-later cs ds made (take k list) so_far)) here)
 
 -- ---- what a coefficient is tied to
 

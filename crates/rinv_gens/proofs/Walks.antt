@@ -30,12 +30,14 @@ module _ (p : ℕ) where
   pub new-append : (cs xs ys : List Fraction) → new_values p cs (xs ++ ys) ≡ new_values p cs xs ++ new_values p (cs ++ new_values p cs xs) ys
   unfolding new_values
   new-append cs [] ys = ap (λ (ds : List Fraction). new_values p ds ys) (sym (append-nil cs))
-  new-append cs (x ∷ xs) ys = go (is_constant p x || is_among p cs x)
+  new-append cs (x ∷ xs) ys = go (is_constant p x || is_among p cs x) (new-append cs xs ys) (new-append (cs ++ x ∷ []) xs ys)
     where
-      go : (b : Bool) → (if b then new_values p cs (xs ++ ys) else x ∷ new_values p (cs ++ x ∷ []) (xs ++ ys))
+      go : (b : Bool) → new_values p cs (xs ++ ys) ≡ new_values p cs xs ++ new_values p (cs ++ new_values p cs xs) ys
+          → new_values p (cs ++ x ∷ []) (xs ++ ys) ≡ new_values p (cs ++ x ∷ []) xs ++ new_values p ((cs ++ x ∷ []) ++ new_values p (cs ++ x ∷ []) xs) ys
+          → (if b then new_values p cs (xs ++ ys) else x ∷ new_values p (cs ++ x ∷ []) (xs ++ ys))
           ≡ (if b then new_values p cs xs else x ∷ new_values p (cs ++ x ∷ []) xs) ++ new_values p (cs ++ (if b then new_values p cs xs else x ∷ new_values p (cs ++ x ∷ []) xs)) ys
-      go true = new-append cs xs ys
-      go false = ap (λ (ds : List Fraction). x ∷ ds) (new-append (cs ++ x ∷ []) xs ys
+      go true left later = left
+      go false left later = ap (λ (ds : List Fraction). x ∷ ds) (later
           ∙ ap (λ (ds : List Fraction). new_values p (cs ++ x ∷ []) xs ++ new_values p ds ys) (append_assoc cs (x ∷ []) (new_values p (cs ++ x ∷ []) xs)))
 
   -- of none
@@ -95,18 +97,18 @@ module _ (p : ℕ) where
 
   -- ---- among others
 
+  any-push : (ds : List Fraction) (test : Fraction → Bool) (d : Fraction) → list_any test ds ≡ false → test d ≡ false → list_any test (ds ++ d ∷ []) ≡ false
+  any-push [] test d h k = rw k refl
+  any-push (e ∷ ds) test d h k = both (test e) h (λ i. any-push ds test d i k)
+    where
+      both : (b : Bool) → (b || list_any test ds) ≡ false → (list_any test ds ≡ false → list_any test (ds ++ d ∷ []) ≡ false) → (b || list_any test (ds ++ d ∷ [])) ≡ false
+      both true h more = absurd h
+      both false h more = more h
+
   -- one more fraction has not the value
   pub among-more : (cs : List Fraction) (k : ℕ) (d c : Fraction) → k < length cs → d ≡ get_or cs k d → is_among p (take k cs) c ≡ false → (rational_ops p).same d c ≡ false → is_among p (take (k + 1) cs) c ≡ false
   among-more cs k d c few at so_far here =
-      ap (λ (ds : List Fraction). is_among p ds c) (take-at cs k d few at) ∙ any-push (take k cs) (rational_ops p).same c d so_far here
-    where
-      any-push : (ds : List Fraction) (test : Fraction → Fraction → Bool) (c d : Fraction) → list_any (λ e. test e c) ds ≡ false → test d c ≡ false → list_any (λ e. test e c) (ds ++ d ∷ []) ≡ false
-      any-push [] test c d h k = rw k refl
-      any-push (e ∷ ds) test c d h k = both (test e c) h
-        where
-          both : (b : Bool) → (b || list_any (λ e. test e c) ds) ≡ false → (b || list_any (λ e. test e c) (ds ++ d ∷ [])) ≡ false
-          both true h = h
-          both false h = any-push ds test c d h k
+      ap (λ (ds : List Fraction). is_among p ds c) (take-at cs k d few at) ∙ any-push (take k cs) (λ e. (rational_ops p).same e c) d so_far here
 
 -- ---- relations
 
