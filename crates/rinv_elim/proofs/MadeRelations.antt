@@ -1,6 +1,6 @@
 -- A relation whose tail was made term by term is the relation of its element.
 --   solved-relation      the fact
-use Rattle.std.proofs.Common.{◌≡◌, ◌⊎◌, ℕ, zero, suc, Bool, true, false, cond, List, [], ◌∷◌, map, get_or, refl, sym, ◌∙◌, ap, subst, inl, inr, arith, IsTrue, true≢false}
+use Rattle.std.proofs.Common.{◌≡◌, ◌⊎◌, ℕ, zero, suc, Bool, true, false, cond, List, [], ◌∷◌, map, get_or, refl, sym, ◌∙◌, ap, subst, inl, inr, arith, true≢false}
 use Rattle.std.specs.Prelude.{IsFalse, All, AllPairs}
 use Rattle.std.proofs.lemmas.List.Elements.{All-head, All-tail, filter_agree}
 use Rattle.rinv_algebra.specs.Ring.{RingOps, RingLaws, IsSame}
@@ -21,7 +21,7 @@ use Rattle.rinv_defs.specs.Extended.{Relation, FractionPoly}
 use Rattle.rinv_frac.specs.Cancelling.{IsCancelled}
 use Rattle.rinv_frac.proofs.Values.{zero-value}
 use Rattle.rinv_frac.proofs.CancelledValues.{one_nonzero}
-use Rattle.rinv_reduction.specs.Localised.{lead_in_z, z_coefficient, IsRelationOf}
+use Rattle.rinv_reduction.specs.Localised.{z_coefficient, IsRelationOf}
 use Rattle.rinv_elim.specs.Localising.{IsSolution, IsSolved}
 use Rattle.rinv_elim.proofs.SolvedCoefficients.{solved-coefficient}
 

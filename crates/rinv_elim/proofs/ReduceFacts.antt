@@ -3,7 +3,7 @@
 --   ascending-leads      its leads ascend
 --   stops-at             where degrees are met
 use Rattle.std.proofs.Common.{◌≡◌, ℕ, zero, suc, ◌<◌, List, [], ◌∷◌, length, get_or, refl, sym, ap, ◌∙◌, subst, subst₂, arith}
-use Rattle.std.specs.Prelude.{All, AllPairs}
+use Rattle.std.specs.Prelude.{All}
 use Rattle.std.specs.declared.cmp.Ordering.TheVariants.{Less}
 use Rattle.rinv_algebra.specs.Order.{grevlex}
 use Rattle.rinv_ring.specs.Fault.{DegreesMeet}
@@ -41,3 +41,18 @@ module _ (s : System) (rs qs : List Relation) (stored_rs : All (IsStoredRelation
 pub stops-at : (P : Poly → Type 0) (Q : ℕ → ℕ → Type 0) (fault : RingFault) → DegreesMeet Q fault → StopsAt P Q (stop_of fault)
 stops-at P Q (DegreeFault x y) h = h
 stops-at P Q MemoryFault h = tt
+
+-- ---- over equal numbers
+
+module _ (p q v w : ℕ) (field : p ≡ q) (vars : v ≡ w) (rs : List Relation) where
+  pub stored-over : All (IsStoredRelation q w) rs → All (IsStoredRelation p v) rs
+  stored-over h = subst (λ (a : ℕ). All (IsStoredRelation a v) rs) (sym field) (subst (λ (b : ℕ). All (IsStoredRelation q b) rs) (sym vars) h)
+
+  pub stored-back : All (IsStoredRelation p v) rs → All (IsStoredRelation q w) rs
+  stored-back h = subst (λ (b : ℕ). All (IsStoredRelation q b) rs) vars (subst (λ (a : ℕ). All (IsStoredRelation a v) rs) field h)
+
+  pub made-over : (qs : List Relation) → AreReducedSoFar p v rs qs → AreReducedSoFar q w rs qs
+  made-over qs h = subst (λ (b : ℕ). AreReducedSoFar q b rs qs) vars (subst (λ (a : ℕ). AreReducedSoFar a v rs qs) field h)
+
+  pub meets-over : (fault : RingFault) → DegreesMeet (TailsMeet p v rs) fault → DegreesMeet (TailsMeet q w rs) fault
+  meets-over fault h = subst (λ (b : ℕ). DegreesMeet (TailsMeet q b rs) fault) vars (subst (λ (a : ℕ). DegreesMeet (TailsMeet a v rs) fault) field h)

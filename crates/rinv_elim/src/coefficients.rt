@@ -71,15 +71,17 @@ pub(crate) fn z_coefficient(
     ensures value { IfOk result (λ f. f ≡ z_coefficient system.now.system h.now z.now) }
 {
     let mut terms = Vec::new(alloc);
-    'terms: for (mono, c) in h.terms() {
+    'each: for (mono, c) in h.terms() {
         let exponents = z_part(alloc, system, mono)?;
-        if is_same(&exponents, z) {
-            let rest = space_part(alloc, system, mono)?;
-            terms.push((rest, *c))?;
+        if !is_same(&exponents, z) {
+            continue;
         }
+        let rest = space_part(alloc, system, mono)?;
+        terms.push((rest, *c))?;
     }
     // The terms descend as those of the polynomial do.
-    match space_ring.stored(terms)? {
+    let made = space_ring.stored(terms)?;
+    match made {
         Some(coefficient) => Ok(coefficient),
         None => unreachable!(),
     }

@@ -5,15 +5,15 @@
 //! - `localise`, `reduce`: relations over fractions, and the reduction of their tails
 #![tactic(auto)]
 
-mod action;
-mod blocks;
 mod coefficients;
-mod inputs;
+mod eliminating;
 mod localising;
 mod reducing;
+mod relating;
 mod stop;
 
-pub use action::{action_basis, eliminate};
+pub use eliminating::eliminate;
 pub use localising::localise;
 pub use reducing::reduce;
+pub use rinv_action::action_basis;
 pub use stop::ElimStop;

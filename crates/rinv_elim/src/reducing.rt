@@ -28,7 +28,8 @@ pub fn reduce(alloc: Global, system: &System, relations: Monic) -> Result<Monic,
     ensures made { IfOk result (AreReducedSoFar system.now.system.p (space_count system.now.system) relations) }
     ensures degree { IfErr result (StopsAt (λ _. ⊥) (TailsMeet system.now.system.p (space_count system.now.system) relations)) }
 {
-    let field = FracRing::new(PolyRing::new(system.field, system.space.len()));
+    let ring = PolyRing::new(system.field, system.space.len());
+    let field = FracRing::new(ring);
     let reduced = reduced_tails(&field, alloc, relations)?;
     Ok(reduced)
 }

@@ -1,5 +1,6 @@
 //! Systems, and the reduced bases of their extended ideals.
 
+use rinv_buch::{Stop, Why};
 use rinv_div::Budget;
 use rinv_elim::{ElimStop, action_basis, eliminate, localise, reduce};
 use rinv_frac::FracRing;
@@ -35,6 +36,14 @@ const SHIFTS: &[u8] =
 const EXCHANGES: &[u8] =
     b"field 7\ngroup a\nspace x, y\nideal a^2-1\nunit 1\nproduct a*a'\ninverse a\naction 4*(1+a)*x+4*(1-a)*y, 4*(1-a)*x+4*(1+a)*y\n";
 
+// The matrices of determinant 1, on binary quadratics.
+const QUADRATICS: &[u8] =
+    b"field 32003\ngroup a, b, c, d\nspace u, v, w\nideal a*d-b*c-1\nunit 1, 0, 0, 1\nproduct a*a'+b*c', a*b'+b*d', c*a'+d*c', c*b'+d*d'\ninverse d, -b, -c, a\naction a^2*u+a*b*v+b^2*w, 2*a*c*u+(a*d+b*c)*v+2*b*d*w, c^2*u+c*d*v+d^2*w\n";
+
+// Rigid motions of two points of the plane.
+const MOTIONS: &[u8] =
+    b"field 101\ngroup a, b, c, d\nspace u, v, s, t\nideal a^2+b^2-1\nunit 1, 0, 0, 0\nproduct a*a'-b*b', a*b'+b*a', a*c'-b*d'+c, b*c'+a*d'+d\ninverse a, -b, -a*c-b*d, b*c-a*d\naction a*u-b*v+c, b*u+a*v+d, a*s-b*t+c, b*s+a*t+d\n";
+
 // A lead, and terms with their numerators and denominators.
 type Row<'a> = (&'a [u32], &'a [(&'a [u32], &'a str, &'a str)]);
 
@@ -55,6 +64,23 @@ const OF_EXCHANGES: &[Row] = &[
     (&[1, 0], &[(&[0, 1], "-1", "1"), (&[0, 0], "x+y", "1")]),
     (&[0, 2], &[(&[0, 1], "x+y", "1"), (&[0, 0], "-x*y", "1")]),
 ];
+
+const OF_QUADRATICS: &[Row] = &[(
+    &[0, 2, 0],
+    &[(&[1, 0, 1], "4", "1"), (&[0, 0, 0], "v^2-4*u*w", "1")],
+)];
+
+const OF_MOTIONS: &[Row] = &[(
+    &[2, 0, 0, 0],
+    &[
+        (&[0, 2, 0, 0], "-1", "1"),
+        (&[1, 0, 1, 0], "2", "1"),
+        (&[0, 0, 2, 0], "-1", "1"),
+        (&[0, 1, 0, 1], "2", "1"),
+        (&[0, 0, 0, 2], "-1", "1"),
+        (&[0, 0, 0, 0], "(u-s)^2+(v-t)^2", "1"),
+    ],
+)];
 
 // x = 0 and y stays.
 const ON_SECTION: &[Row] = &[(&[0, 1], &[(&[0, 0], "y", "1")]), (&[1, 0], &[])];
@@ -150,23 +176,25 @@ fn has_basis(alloc: Global, text: &[u8], rows: &[Row]) -> bool {
     }
 }
 
-// The system of a text, with a polynomial for its section.
-fn system_on(alloc: Global, text: &[u8], section: &str) -> Option<System> {
-    if section.len() > 10_000 {
-        return None;
-    }
+// The system of a text, with polynomials for its section.
+fn system_on(alloc: Global, text: &[u8], section: &[&str]) -> Option<System> {
     let mut system = system_of(alloc, text)?;
-    let Ok(f) = read_poly(alloc, section, &system.space, &system.field) else {
-        return None;
-    };
-    match system.section.push(f) {
-        Ok(()) => Some(system),
-        Err(_) => None,
+    for k in 0..section.len() {
+        if section[k].len() > 10_000 {
+            return None;
+        }
+        let Ok(f) = read_poly(alloc, section[k], &system.space, &system.field) else {
+            return None;
+        };
+        if system.section.push(f).is_err() {
+            return None;
+        }
     }
+    Some(system)
 }
 
 // Whether its reduced basis is this on the section.
-fn has_basis_on(alloc: Global, text: &[u8], section: &str, rows: &[Row]) -> bool {
+fn has_basis_on(alloc: Global, text: &[u8], section: &[&str], rows: &[Row]) -> bool {
     match system_on(alloc, text, section) {
         Some(system) => is_basis(alloc, &system, rows),
         None => false,
@@ -174,7 +202,7 @@ fn has_basis_on(alloc: Global, text: &[u8], section: &str, rows: &[Row]) -> bool
 }
 
 // Whether the section misses the orbits, by this element.
-fn misses_by(alloc: Global, text: &[u8], section: &str, wanted: &str) -> bool {
+fn misses_by(alloc: Global, text: &[u8], section: &[&str], wanted: &str) -> bool {
     let Some(system) = system_on(alloc, text, section) else {
         return false;
     };
@@ -224,10 +252,33 @@ fn makes_the_reduced_basis(rt: HostRuntime) {
     }
 }
 
+// What stops the run on the system with this budget: a pair, a step, or neither.
+fn stopped_by(alloc: Global, text: &[u8], pairs: u32, steps: u64) -> u32 {
+    let Some(system) = system_of(alloc, text) else {
+        return 3;
+    };
+    let mut budget = Budget {
+        pairs,
+        steps,
+        pairs_spent: 0,
+        steps_spent: 0,
+        endless: false,
+    };
+    match action_basis(alloc, &system, &mut budget) {
+        Err(Stop::Incomplete(halt)) => match halt.why {
+            Why::Pairs { .. } => 1,
+            Why::Steps { .. } => 2,
+            Why::Degree { .. } => 3,
+        },
+        Err(_) => 3,
+        Ok(_) => 0,
+    }
+}
+
 #[test]
 fn cuts_orbits_by_a_section(rt: HostRuntime) {
     assert!(rt;
-        has_basis_on(rt.alloc(), TRANSLATIONS, "x", ON_SECTION),
+        has_basis_on(rt.alloc(), TRANSLATIONS, &["x"], ON_SECTION),
         "x = 0 meets each orbit once"
     );
 }
@@ -235,7 +286,44 @@ fn cuts_orbits_by_a_section(rt: HostRuntime) {
 #[test]
 fn tells_a_section_that_misses_orbits(rt: HostRuntime) {
     assert!(rt;
-        misses_by(rt.alloc(), TRANSLATIONS, "y-1", "y-1"),
+        misses_by(rt.alloc(), TRANSLATIONS, &["y-1"], "y-1"),
         "y = 1 misses most orbits"
+    );
+    assert!(rt;
+        misses_by(rt.alloc(), TRANSLATIONS, &["y"], "y"),
+        "so does y = 0"
+    );
+    assert!(rt;
+        misses_by(rt.alloc(), SCALINGS, &["x-1", "x-2"], "1"),
+        "and an empty section misses them all"
+    );
+}
+
+#[test]
+fn makes_the_reduced_basis_of_larger_groups(rt: HostRuntime) {
+    for (text, rows) in [(QUADRATICS, OF_QUADRATICS), (MOTIONS, OF_MOTIONS)] {
+        assert!(rt;
+            has_basis(rt.alloc(), text, rows),
+            "one invariant gives the one relation"
+        );
+    }
+}
+
+#[test]
+fn stops_where_the_budget_ends(rt: HostRuntime) {
+    assert_eq!(rt;
+        stopped_by(rt.alloc(), ROTATIONS, 0, 1000),
+        1,
+        "no pair may be taken"
+    );
+    assert_eq!(rt;
+        stopped_by(rt.alloc(), ROTATIONS, 1000, 0),
+        2,
+        "no step may be made"
+    );
+    assert_eq!(rt;
+        stopped_by(rt.alloc(), ROTATIONS, 1000, 1000),
+        0,
+        "and this is enough"
     );
 }

@@ -5,10 +5,10 @@
 --   there-meets          the degrees that this may answer
 --   added-below          what is below a monomial stays below it
 --   added-behind         terms above all others stay as they are
-use Rattle.std.proofs.Common.{◌≡◌, ℕ, suc, ◌<◌, ◌+◌, Bool, true, false, cond, List, [], ◌∷◌, ◌++◌, length, get_or, take, drop, take-append-drop, append_assoc, refl, sym, ◌∙◌, ap, subst, arith, All}
+use Rattle.std.proofs.Common.{◌≡◌, ℕ, suc, ◌<◌, ◌+◌, Bool, true, false, cond, List, ◌∷◌, ◌++◌, length, get_or, take, drop, take-append-drop, append_assoc, refl, sym, ◌∙◌, ap, subst, arith, All}
 use Rattle.std.specs.Prelude.{insert, remove, slice_set, Contains}
 use Rattle.std.proofs.lemmas.List.{set_split}
-use Rattle.std.proofs.lemmas.List.Elements.{All-head, All-tail, All-cons, All-append, All-get_or}
+use Rattle.std.proofs.lemmas.List.Elements.{All-tail, All-cons, All-append}
 use Rattle.std.specs.declared.cmp.Ordering.TheVariants.{Less}
 use Rattle.rinv_algebra.specs.Residue.{residue_ops}
 use Rattle.rinv_algebra.specs.Order.{grevlex}
@@ -30,7 +30,7 @@ use Rattle.rinv_frac.proofs.Values.{zero-value}
 use Rattle.rinv_tails.specs.Stored.{IsTailTerm, IsTail}
 use Rattle.rinv_tails.specs.Places.{IsThere, IsGap, with_sum}
 use Rattle.rinv_tails.specs.Reducing.{AddingMeets, IsAdded, AddsTerm, new, summed, cancelled}
-use Rattle.rinv_tails.proofs.Tails.{Below, Above, all-left, all-right, at-place, tail-left, tail-right, tail-term, tail-append, tail-without, tail-other, tail-between}
+use Rattle.rinv_tails.proofs.Tails.{Below, Above, all-left, all-right, at-place, tail-right, tail-term, tail-append, tail-without, tail-other, tail-between}
 
 module _ (p v : ℕ) where
   pub gap-added : (m : List ℕ) (c : Fraction) (f g : FractionPoly) (k : ℕ) → IsTailTerm p v (m, c) → IsTail p v f → IsGap m f k → g ≡ insert f k (m, c) → AddsTerm p v m c f g

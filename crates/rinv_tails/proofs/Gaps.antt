@@ -2,9 +2,8 @@
 --   is-there             at the term that ties with it
 --   gap-before, gap-end  before the first term below it, or behind all
 --   above-more           one more term above it
-use Rattle.std.proofs.Common.{◌≡◌, ℕ, zero, suc, ◌<◌, ◌≤◌, ◌+◌, List, [], ◌∷◌, length, length-drop, get_or, get_or-drop, take, take_all, drop, refl, sym, ◌∙◌, ap, subst, arith, All, AllPairs}
+use Rattle.std.proofs.Common.{◌≡◌, ℕ, zero, suc, ◌<◌, ◌≤◌, ◌+◌, List, [], ◌∷◌, length, length-drop, get_or, get_or-drop, take, take_all, refl, sym, ◌∙◌, ap, subst, arith, All, AllPairs}
 use Rattle.std.specs.Ordering.{ordering_reverse}
-use Rattle.std.specs.declared.cmp.Ordering.{Ordering}
 use Rattle.std.specs.declared.cmp.Ordering.TheVariants.{Less, Equal, Greater}
 use Rattle.std.proofs.lemmas.List.Elements.{All-more}
 use Rattle.rinv_algebra.specs.Order.{grevlex}

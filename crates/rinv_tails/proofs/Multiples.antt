@@ -5,9 +5,8 @@
 --   product-meets, sum-meets     the degrees that a term may answer
 --   multiple-behind              terms above all others stay as they are
 use Rattle.std.proofs.Common.{◌≡◌, ℕ, suc, ◌<◌, ◌≤◌, ◌+◌, ◌⊎◌, inl, inr, Bool, true, false, List, [], ◌∷◌, ◌++◌, length, get_or, take, drop, take_all, refl, sym, ◌∙◌, ap, subst, arith, All, IsTrue, true≢false}
-use Rattle.std.specs.Prelude.{Contains}
 use Rattle.std.proofs.lemmas.Bool.{cases_order}
-use Rattle.std.proofs.lemmas.List.Elements.{All-get_or, All-head, All-weaker, Contains-append_right}
+use Rattle.std.proofs.lemmas.List.Elements.{All-head, Contains-append_right}
 use Rattle.std.specs.Cmp.{nat_cmp_is}
 use Rattle.std.specs.Ordering.{ordering_then}
 use Rattle.std.specs.declared.cmp.Ordering.{Ordering}
@@ -72,6 +71,16 @@ factor-low m lead n same divides less low =
     let b = sum-product q n in
     omega (arith, a, b, low)
 
+as-long : (a b : List ℕ) → length a ≡ length b → length (monomial_product a b) ≡ length a
+unfolding monomial_product
+as-long [] b e = sym e
+as-long (x ∷ a) [] e = absurd (omega (arith, e))
+as-long (x ∷ a) (y ∷ b) e = ap suc (as-long a b (omega (arith, e)))
+
+-- a product has as many exponents as its factors
+pub product-length : (v : ℕ) (a b : List ℕ) → length a ≡ v → length b ≡ v → length (monomial_product a b) ≡ v
+product-length v a b la lb = as-long a b (la ∙ sym lb) ∙ la
+
 module _ (p v : ℕ) where
   -- the product of two fractions that are not zero is none
   pub product-nonzero_of : (c e d : Fraction) → IsStored p v c → IsStored p v e → is_zero (residue_ops p) c.0 ≡ false → is_zero (residue_ops p) e.0 ≡ false → IsProduct (residue_ops p) c e d → is_zero (residue_ops p) d.0 ≡ false
@@ -125,6 +134,22 @@ module _ (p v : ℕ) where
 
   pub adding-all : (q : List ℕ) (c : Fraction) (m : List ℕ) (f terms : FractionPoly) (k : ℕ) (g : FractionPoly) → length terms ≤ k → IsAdding q c m f terms k g → AreAdded p v q c f terms g
   adding-all q c m f terms k g all h = subst (λ (ts : FractionPoly). AreAdded p v q c f ts g) (take_all k terms all) h.added
+
+  -- what a term of a relation's tail is to the multiple
+  pub record IsFactor (m lead : List ℕ) (t : List ℕ × Fraction) : Type 0 where
+    pub term : IsTailTerm p v t
+    pub low : total_degree (quotient m lead) + total_degree t.0 ≤ max_degree
+    pub below : grevlex (monomial_product (quotient m lead) t.0) m ≡ Less
+
+  pub factor-at : (m : List ℕ) (r : Relation) (k : ℕ) (t : List ℕ × Fraction) → length m ≡ v → total_degree m ≤ max_degree → IsStoredRelation p v r → IsTrue (divides r.lead m) → k < length r.tail → t ≡ get_or r.tail k t → IsFactor m r.lead t
+  factor-at m r k t vars low good d inside here = record {
+    term = subst (IsTailTerm p v) (sym here) (good.tail.terms k t inside);
+    low = factor-low m r.lead t.0 (vars ∙ sym good.vars) d less low;
+    below = factor-below m r.lead t.0 (vars ∙ sym good.vars) d less;
+  }
+    where
+      less : grevlex t.0 r.lead ≡ Less
+      less = subst (λ (u : List ℕ × Fraction). grevlex u.0 r.lead ≡ Less) (sym here) (good.below k t inside)
 
   -- ---- degrees
 

@@ -1,11 +1,12 @@
 -- Relations whose tails are reduced in turn.
---   lists-start, lists-more, lists-meet      the first of them
-use Rattle.std.proofs.Common.{◌≡◌, ◌⊎◌, ℕ, zero, suc, ◌<◌, ◌≤◌, ◌+◌, List, [], ◌∷◌, ◌++◌, length, length-append, get_or, take, take_all, refl, sym, ◌∙◌, ap, subst, inl, inr, arith, All, IsTrue}
+--   lists-start, lists-more, made-again, lists-meet      the first of them
+use Rattle.std.proofs.Common.{◌≡◌, ◌⊎◌, ℕ, zero, suc, ◌<◌, ◌≤◌, ◌+◌, List, [], ◌∷◌, ◌++◌, length, length-append, get_or, take, take_all, refl, sym, ◌∙◌, ap, subst, inl, inr, arith, All}
 use Rattle.std.specs.Prelude.{IsFalse, Contains}
 use Rattle.std.proofs.lemmas.Bool.{cases_order}
 use Rattle.std.proofs.lemmas.List.{take-append-le}
 use Rattle.std.proofs.lemmas.List.Elements.{All-nil, All-push, All-contains}
 use Rattle.std.specs.declared.cmp.Ordering.TheVariants.{Less}
+use Rattle.rinv_algebra.specs.Monomial.{total_degree, max_degree}
 use Rattle.rinv_algebra.specs.Order.{grevlex}
 use Rattle.rinv_ring.specs.Fault.{DegreesMeet}
 use Rattle.rinv_ring.specs.declared.fault.RingFault.{RingFault}
@@ -84,3 +85,20 @@ module _ (p v : ℕ) where
       so_far = h.so_far;
       meets = subst (λ (s : Relation). TailMeets p v qs s.tail x y) (sym there) meets;
     })
+
+    -- as it is stored: the lead, and the tail that is made of the one that was given
+    pub made-again : (lead : List ℕ) (given made : FractionPoly) (by : List Relation) → by ≡ qs → record { lead = lead; tail = given } ≡ r → IsStoredRelation p v r → Reduces p v by given made → All (λ t. IsFalse (is_reducible by t.0)) made → IsTail p v made
+        → ((m : List ℕ) → All (λ t. grevlex t.0 m ≡ Less) given → All (λ t. grevlex t.0 m ≡ Less) made) → (more : List Relation) → more ≡ qs ++ (record { lead = lead; tail = made }) ∷ [] → AreReducing rs (k + 1) more
+    made-again lead given made by same is good steps whole tail below more e =
+        lists-more more (record { lead = lead; tail = made }) e same_lead
+        (subst (λ (x : Relation). Reduces p v qs x.tail made) is (subst (λ (xs : List Relation). Reduces p v xs given made) same steps))
+        (subst (λ (xs : List Relation). All (λ t. IsFalse (is_reducible xs t.0)) made) same whole)
+        (record {
+          vars = subst (λ (m : List ℕ). length m ≡ v) (sym same_lead) good.vars;
+          low = subst (λ (m : List ℕ). total_degree m ≤ max_degree) (sym same_lead) good.low;
+          tail = tail;
+          below = below lead (subst (λ (x : Relation). All (λ t. grevlex t.0 x.lead ≡ Less) x.tail) (sym is) good.below);
+        })
+      where
+        same_lead : lead ≡ r.lead
+        same_lead = ap (λ (x : Relation). x.lead) is

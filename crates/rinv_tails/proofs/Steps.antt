@@ -3,14 +3,14 @@
 --   term-falls           what is left reaches fewer monomials
 --   settled, replaced    a term that no lead divides, and one that is replaced
 --   step-meets           the degrees that a step may answer
-use Rattle.std.proofs.Common.{◌≡◌, ℕ, suc, ◌<◌, ◌≤◌, ◌+◌, List, [], ◌∷◌, ◌++◌, length, get_or, take, drop, append_assoc, append-nil, refl, sym, ◌∙◌, ap, subst, arith, All, IsTrue}
+use Rattle.std.proofs.Common.{◌≡◌, ℕ, ◌<◌, List, [], ◌∷◌, ◌++◌, length, get_or, append_assoc, append-nil, refl, sym, ◌∙◌, ap, subst, arith, All, IsTrue}
 use Rattle.std.specs.Prelude.{IsFalse, remove}
 use Rattle.std.specs.List.{list_all}
 use Rattle.std.specs.Ordering.{is_lt, is_ge}
 use Rattle.std.proofs.lemmas.Cmp.{tied_itself}
-use Rattle.std.proofs.lemmas.List.Elements.{All-nil, All-cons, All-head, All-tail, All-push, All-append, All-contains, All-weaker}
+use Rattle.std.proofs.lemmas.List.Elements.{All-nil, All-head, All-tail, All-push, All-append, All-contains, All-weaker}
 use Rattle.std.specs.declared.cmp.Ordering.TheVariants.{Less}
-use Rattle.rinv_algebra.specs.Monomial.{monomial_product, quotient, divides, total_degree}
+use Rattle.rinv_algebra.specs.Monomial.{quotient, divides}
 use Rattle.rinv_algebra.specs.Order.{grevlex}
 use Rattle.rinv_algebra.proofs.Grevlex.{grevlex_laws}
 use Rattle.rinv_groebner.specs.Count.{count, reaches}
@@ -21,9 +21,9 @@ use Rattle.rinv_poly.proofs.Meets.{meet-weaker}
 use Rattle.rinv_defs.specs.Invariant.{Fraction}
 use Rattle.rinv_defs.specs.Extended.{Relation, FractionPoly, is_reducible}
 use Rattle.rinv_tails.specs.Stored.{IsTailTerm, IsTail, IsStoredRelation, none}
-use Rattle.rinv_tails.specs.Reducing.{IsNextTerm, Reduces, begin, step, AreAdded, MultipleMeets, StepMeets, TailMeets}
+use Rattle.rinv_tails.specs.Reducing.{IsNextTerm, Reduces, begin, step, AreAdded, MultipleMeets, TailMeets}
 use Rattle.rinv_tails.proofs.Multiples.{AreUnder, factor-below, multiple-behind, meets-behind}
-use Rattle.rinv_tails.proofs.Tails.{Below, Above, all-left, all-right, tail-nil, tail-term, tail-rest, tail-below, tail-left, tail-right, tail-above, tail-append, tail-push}
+use Rattle.rinv_tails.proofs.Tails.{Below, all-left, all-right, tail-term, tail-rest, tail-below, tail-left, tail-right, tail-above, tail-append}
 use Rattle.rinv_tails.proofs.AddedTerms.{over}
 
 -- the first of a list that is not empty

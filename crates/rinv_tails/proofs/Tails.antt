@@ -3,15 +3,12 @@
 --   at-place, take-at              a list about one of its places
 --   tail-nil, tail-cons, ..        tails from the front, and of two lists
 --   tail-without, tail-other       a term taken away, or with another fraction
-use Rattle.std.proofs.Common.{◌≡◌, ℕ, zero, suc, ◌<◌, ◌≤◌, ◌+◌, List, [], ◌∷◌, ◌++◌, length, get_or, take, drop, take-append-drop, append_assoc, refl, sym, ◌∙◌, ap, subst, arith, All, AllPairs}
+use Rattle.std.proofs.Common.{◌≡◌, ℕ, zero, suc, ◌<◌, ◌+◌, List, [], ◌∷◌, ◌++◌, length, get_or, take, drop, sym, ap, subst, arith, All}
 use Rattle.std.proofs.lemmas.List.Elements.{All-nil, All-head, All-tail, All-cons, All-append}
 use Rattle.std.specs.declared.cmp.Ordering.TheVariants.{Less}
 use Rattle.rinv_algebra.specs.Order.{grevlex}
-use Rattle.rinv_algebra.specs.Polynomial.{is_zero}
-use Rattle.rinv_algebra.specs.Residue.{residue_ops}
 use Rattle.rinv_defs.specs.Invariant.{Fraction}
 use Rattle.rinv_defs.specs.Extended.{FractionPoly}
-use Rattle.rinv_frac.specs.Fractions.{IsStored}
 use Rattle.rinv_div.proofs.Arranging.{descend-head, descend-tail, descend-cons, descend-nil, descend-append, descend-left, descend-right, descend-above}
 use Rattle.rinv_tails.specs.Stored.{IsTailTerm, IsTail}
 

@@ -52,10 +52,11 @@ fn reduced_tail(
     let mut left = tail;
     'terms: while left.len() > 0 {
         let (mono, c) = left.remove(0);
-        match first_divisor(by, &mono) {
-            None => done.push((mono, c))?,
-            Some(place) => add_multiple(field, alloc, &mono, &c, &by[place], &mut left)?,
-        }
+        let Some(place) = first_divisor(by, &mono) else {
+            done.push((mono, c))?;
+            continue;
+        };
+        add_multiple(field, alloc, &mono, &c, &by[place], &mut left)?;
     }
     Ok(done)
 }

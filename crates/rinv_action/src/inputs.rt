@@ -60,10 +60,10 @@ fn moved_places(alloc: Global, group: u32, space: u32) -> Result<Vec<u32>, NoMem
     ensures { IfOk result (λ r. r.items ≡ range_with_len 0 group ++ range_with_len (group + space) space) }
 {
     let mut places = Vec::new(alloc);
-    'group: for k in 0..group {
+    'first: for k in 0..group {
         places.push(k)?;
     }
-    'space: for k in 0..space {
+    'second: for k in 0..space {
         places.push(group + space + k)?;
     }
     Ok(places)

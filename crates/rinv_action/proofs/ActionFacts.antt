@@ -26,7 +26,7 @@ use Rattle.rinv_buch.specs.Causes.{Halts, StopsSo}
 use Rattle.rinv_parts.specs.Points.{AreStored, ArePolynomials}
 use Rattle.rinv_parts.proofs.Stored.{stored-same, normal-over}
 use Rattle.rinv_reduction.specs.Localised.{all_count}
-use Rattle.rinv_elim.specs.Action.{IsActionBasis, HaltsInAction}
+use Rattle.rinv_action.specs.Action.{IsActionBasis, HaltsInAction}
 
 module _ {E : Type 0} (o : RingOps E) (l : RingLaws o) where
   -- lists that are the same as a third

@@ -2,20 +2,28 @@
 --   graph_at, graph-is       the graph's element at a place; the graph is these
 --   places-distinct          the places of the group's variables and of the space's
 --   ideal-joined             the generators, of three lists
-use Rattle.std.proofs.Common.{◌≡◌, ℕ, zero, suc, ◌+◌, ◌*◌, ◌<◌, ◌≤◌, List, [], ◌∷◌, ◌++◌, length, map, get_or, refl, sym, ap, ap₂, ◌∙◌, subst, arith, All, AllPairs}
-use Rattle.std.specs.List.{AllZip, range_with_len, zip}
+use Rattle.std.proofs.Common.{◌≡◌, ℕ, zero, suc, ◌+◌, ◌*◌, ◌<◌, ◌≤◌, List, [], ◌∷◌, ◌++◌, length, map, take, take_all, get_or, nat_lt, nat_le, true, ◌&&◌, refl, sym, ap, ap₂, ◌∙◌, subst, arith, All, AllPairs}
+use Rattle.std.specs.List.{AllZip, list_all, range_with_len, zip}
 use Rattle.std.proofs.lemmas.List.{map-append, length-map, get_or-map}
-use Rattle.std.proofs.lemmas.List.Elements.{All-nil, All-cons, All-head, All-tail, All-append, All-weaker}
+use Rattle.std.proofs.lemmas.List.Elements.{All-nil, All-cons, All-head, All-tail, All-append, All-weaker, AllZip-push}
 use Rattle.std.proofs.lemmas.List.FromFn.{length-range_with_len, get_or-range_with_len, get_or-map-range_with_len, length-map-range_with_len, fill_by_all}
 use Rattle.std.proofs.lemmas.List.Kept.{AllPairs-cons}
+use Rattle.rinv_algebra.specs.Ring.{IsSame}
 use Rattle.rinv_algebra.specs.Residue.{residue_ops}
-use Rattle.rinv_algebra.specs.Polynomial.{variable, difference, past}
+use Rattle.rinv_algebra.specs.Polynomial.{poly_ops, variable, difference, opposite, past}
+use Rattle.rinv_algebra.specs.Normal.{IsNormal}
+use Rattle.rinv_algebra.proofs.PolynomialLaws.{poly_laws}
+use Rattle.rinv_algebra.proofs.ResidueLaws.{residue_laws}
+use Rattle.rinv_algebra.proofs.RingFacts as facts
 use Rattle.rinv_algebra.specs.Value.{rename, substitute}
 use Rattle.rinv_sub.specs.Places.{ArePlaces}
 use Rattle.rinv_sub.proofs.Images.{AllZip-append}
 use Rattle.rinv_defs.specs.System.{System, Poly, group_count, space_count, group_copy, variables, moved, differences, at_point}
+use Rattle.rinv_algebra.proofs.Same.{both}
+use Rattle.rinv_defs.specs.SystemForm.{IsSystem, is_good, system_parts}
 use Rattle.rinv_defs.specs.Extended.{graph, action_ideal}
-use Rattle.rinv_parts.specs.Points.{AreStored, IsStoredIn}
+use Rattle.rinv_parts.specs.Points.{ArePolynomials, AreStored, IsStoredIn}
+use Rattle.rinv_sub.proofs.Sums.{take-at}
 use Rattle.rinv_parts.proofs.Names.{range-places}
 use Rattle.rinv_reduction.specs.Localised.{all_count}
 
@@ -98,3 +106,56 @@ module _ (s : System) where
   pub ideal-joined : (v : ℕ) (a b c all : List Poly) → all ≡ (a ++ b) ++ c → AreStored s.p v s.ideal a → AreStored s.p v (graph s) b → AreStored s.p v (map (past (group_count s)) s.section) c → AreStored s.p v (action_ideal s) all
   ideal-joined v a b c all e ha hb hc = subst (AreStored s.p v (action_ideal s)) (sym e)
       (AllZip-append (IsStoredIn s.p v) (s.ideal ++ graph s) (map (past (group_count s)) s.section) (a ++ b) c (AllZip-append (IsStoredIn s.p v) s.ideal (graph s) a b ha hb) hc)
+
+-- ---- lists of polynomials, one after another
+
+-- the next of a list, as it is stored
+pub stored-next : (p v : ℕ) (fs : List Poly) (k : ℕ) (f : Poly) (gs : List Poly) (g : Poly) → k < length fs → f ≡ get_or fs k f → AreStored p v (take k fs) gs → IsStoredIn p v f g → AreStored p v (take (k + 1) fs) (gs ++ g ∷ [])
+stored-next p v fs k f gs g low here so_far one =
+    subst (λ (hs : List Poly). AreStored p v hs (gs ++ g ∷ [])) (sym (take-at fs k f low here)) (AllZip-push (IsStoredIn p v) (take k fs) gs f g so_far one)
+
+-- all of them
+pub stored-whole : (p v : ℕ) (fs : List Poly) (k : ℕ) (gs : List Poly) → length fs ≤ k → AreStored p v (take k fs) gs → AreStored p v fs gs
+stored-whole p v fs k gs all h = subst (λ (hs : List Poly). AreStored p v hs gs) (take_all k fs all) h
+
+-- an element of a list, over equal numbers
+pub normal-at : (p q v w : ℕ) (fs : List Poly) (k : ℕ) (f : Poly) → p ≡ q → v ≡ w → k < length fs → f ≡ get_or fs k f → ArePolynomials q w fs → IsNormal (residue_ops p) (λ c. nat_lt c p) v f
+normal-at p q v w fs k f field vars low here h = rw (field, vars) (subst (IsNormal (residue_ops q) (λ c. nat_lt c q) w) (sym here) (h k f low))
+
+-- one polynomial as it is stored, over equal numbers
+pub stored-one : (p q v w : ℕ) (f g : Poly) → p ≡ q → v ≡ w → IsNormal (residue_ops p) (λ c. nat_lt c p) v g → IsSame (poly_ops (residue_ops p)) g f → IsStoredIn q w f g
+stored-one p q v w f g field vars normal value =
+    subst (λ (a : ℕ). IsStoredIn a w f g) field (subst (λ (b : ℕ). IsStoredIn p b f g) vars (record { normal = normal; value = value }))
+
+-- the difference of two that are stored
+pub difference-stored : (p v : ℕ) (x y a b g : Poly) → IsSame (poly_ops (residue_ops p)) a x → IsSame (poly_ops (residue_ops p)) b y → IsNormal (residue_ops p) (λ c. nat_lt c p) v g → IsSame (poly_ops (residue_ops p)) g (difference (residue_ops p) a b)
+    → IsStoredIn p v (difference (residue_ops p) x y) g
+difference-stored p v x y a b g ax by normal value = record {
+  normal = normal;
+  value =
+      let o = poly_ops (residue_ops p) in
+      let l = poly_laws (residue_ops p) (residue_laws p) in
+      facts.then o l value (l.add_same a x (opposite (residue_ops p) b) (opposite (residue_ops p) y) ax (l.neg_same b y by));
+}
+
+-- a polynomial that is another one, as it is stored
+pub stored-is : (p v : ℕ) (f h g : Poly) → f ≡ h → IsStoredIn p v f g → IsStoredIn p v h g
+stored-is p v f h g e one = subst (λ (x : Poly). IsStoredIn p v x g) e one
+
+-- an element over equal numbers
+pub element-over : (s : System) (p v place k : ℕ) (places : List ℕ) (f g : Poly) → p ≡ s.p → v ≡ all_count s → place ≡ group_count s + k → places ≡ moved_places (group_count s) (space_count s) → f ≡ get_or s.action k []
+    → IsStoredIn p v (difference (residue_ops p) (variable (residue_ops p) place) (rename (residue_ops p) places f)) g → IsStoredIn s.p (all_count s) (graph_at s k) g
+element-over s p v place k places f g field vars here is of one =
+    subst (λ (x : Poly). IsStoredIn s.p (all_count s) (difference (residue_ops s.p) (variable (residue_ops s.p) (group_count s + k)) (rename (residue_ops s.p) (moved_places (group_count s) (space_count s)) x)) g) of
+    (subst (λ (ks : List ℕ). IsStoredIn s.p (all_count s) (difference (residue_ops s.p) (variable (residue_ops s.p) (group_count s + k)) (rename (residue_ops s.p) ks f)) g) is
+    (subst (λ (j : ℕ). IsStoredIn s.p (all_count s) (difference (residue_ops s.p) (variable (residue_ops s.p) j) (rename (residue_ops s.p) places f)) g) here
+    (subst (λ (b : ℕ). IsStoredIn s.p b (difference (residue_ops s.p) (variable (residue_ops s.p) place) (rename (residue_ops s.p) places f)) g) vars
+    (subst (λ (a : ℕ). IsStoredIn a v (difference (residue_ops a) (variable (residue_ops a) place) (rename (residue_ops a) places f)) g) field one))))
+
+-- the section's polynomials are in normal form
+normal-each : (s : System) (fs : List Poly) → list_all (is_good s (space_count s)) fs ≡ true → ArePolynomials s.p (space_count s) fs
+normal-each s [] h = All-nil (IsNormal (residue_ops s.p) (λ c. nat_lt c s.p) (space_count s))
+normal-each s (f ∷ fs) h = let parts = both (is_good s (space_count s) f) (list_all (is_good s (space_count s)) fs) h in All-cons (IsNormal (residue_ops s.p) (λ c. nat_lt c s.p) (space_count s)) f fs parts.0 (normal-each s fs parts.1)
+
+pub section-normal : (s : System) → IsSystem s → ArePolynomials s.p (space_count s) s.section
+section-normal s form = normal-each s s.section (both (list_all (λ part. part.1) (system_parts s) && nat_le (length s.section) 64) (list_all (is_good s (space_count s)) s.section) form).1

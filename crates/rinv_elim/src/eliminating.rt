@@ -1,4 +1,4 @@
-//! The Gröbner basis of the action's ideal, and its part without the group's variables.
+//! The elements of the reduced basis that have none of the group's variables.
 
 ghost use Rattle.std.specs.Prelude.{◌≡◌, false, All, IfOk, IfErr};
 ghost use Rattle.rinv_algebra.specs.Residue.{residue_ops};
@@ -9,45 +9,18 @@ ghost use Rattle.rinv_groebner.specs.Elimination.{free_part, is_free};
 ghost use Rattle.rinv_ring.specs.Fault.{DegreesMeet};
 ghost use Rattle.rinv_defs.specs.System.{group_count};
 ghost use Rattle.rinv_defs.specs.SystemForm.{IsSystem};
-ghost use Rattle.rinv_buch.specs.Causes.{StopsSo};
-ghost use Rattle.rinv_buch.specs.Spent.{IsKept, KeepsLimits, SpendsOn};
 ghost use Rattle.rinv_parts.specs.Points.{ArePolynomials};
 ghost use Rattle.rinv_reduction.specs.Localised.{all_count, IsCut};
-ghost use Rattle.rinv_elim.specs.Action.{IsActionBasis, HaltsInAction, EliminationMeets};
+ghost use Rattle.rinv_elim.specs.Action.{IsActionBasis, EliminationMeets};
 
-use crate::blocks::{action_order, action_ring};
-use crate::inputs::action_ideal;
+use rinv_action::{action_order, action_ring};
 use rinv_buch::kinds::Basis;
-use rinv_buch::{Stop, basis, interreduce, leading_term};
-use rinv_div::Budget;
+use rinv_buch::{interreduce, leading_term};
 use rinv_mono::{Blocks, Mono};
 use rinv_poly::{KPoly, PolyRing};
 use rinv_ring::{Gf, NoMemory, Ring, RingFault};
 use rinv_text::System;
 use std::alloc::Global;
-
-/// The Gröbner basis of the group's ideal, the graph and the section, in the order that eliminates the group's variables, then Z.
-pub fn action_basis(
-    alloc: Global,
-    system: &System,
-    budget: &mut Budget,
-) -> Result<Basis<Gf>, Stop<Gf>>
-    requires system { IsSystem system.now.system }
-    requires within { IsKept budget.old }
-    ensures basis { IfOk result (IsActionBasis system.now.system) }
-    ensures spent { IfOk result (λ b. SpendsOn b.journal 0 budget.old budget.new) }
-    ensures stop { IfErr result (StopsSo (HaltsInAction system.now.system budget.old budget.new)) }
-    ensures limits { KeepsLimits budget.old budget.new }
-    ensures still_within { IsKept budget.new }
-{
-    let _pairs = budget.pairs_spent;
-    let _steps = budget.steps_spent;
-    let ring = action_ring(system);
-    let order = action_order(alloc, system)?;
-    let given = action_ideal(alloc, system, &ring)?;
-    let found = basis(&ring, alloc, &given, &order, budget)?;
-    Ok(found)
-}
 
 /// The elements of the reduced basis that have none of the group's variables, with ascending leading monomials. Only these are made.
 pub fn eliminate(alloc: Global, system: &System, basis: &Basis<Gf>) -> Result<Vec<KPoly>, RingFault>
@@ -97,10 +70,11 @@ fn free_elements(
     'elements: for k in 0..polys.len() {
         let h = &polys[k];
         let (lead, _) = leading_term(ring, h, order);
-        if is_free(system, lead) {
-            let copy = ring.copy(alloc, h)?;
-            free.push(copy)?;
+        if !is_free(system, lead) {
+            continue;
         }
+        let copy = ring.copy(alloc, h)?;
+        free.push(copy)?;
     }
     Ok(free)
 }

@@ -14,7 +14,7 @@ use rinv_text::System;
 use std::alloc::Global;
 
 /// The ring in all variables.
-pub(crate) fn action_ring(system: &System) -> PolyRing<Gf>
+pub fn action_ring(system: &System) -> PolyRing<Gf>
     requires { IsSystem system.now.system }
     ensures field { result.coeffs ≡ system.now.system.p }
     ensures vars { result.vars ≡ all_count system.now.system }
@@ -25,7 +25,7 @@ pub(crate) fn action_ring(system: &System) -> PolyRing<Gf>
 }
 
 /// The order in which first the group's variables decide, then Z, then the space's.
-pub(crate) fn action_order(alloc: Global, system: &System) -> Result<Blocks, NoMemory>
+pub fn action_order(alloc: Global, system: &System) -> Result<Blocks, NoMemory>
     requires { IsSystem system.now.system }
     ensures order { IfOk result (λ ends. block_order (sizes_from 0 ends) ≡ action_order system.now.system) }
     ensures suits { IfOk result (λ ends. all_count system.now.system ≡ last_from 0 ends) }
