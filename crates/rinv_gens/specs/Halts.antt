@@ -16,7 +16,8 @@ use Rattle.rinv_parts.specs.LawNames.{law_of, variables_of}
 use Rattle.rinv_reduction.specs.Localised.{IsCut}
 use Rattle.rinv_laws.specs.Group.{HaltsInGroup}
 use Rattle.rinv_laws.specs.Faults.{IsFirstFault, TestMeets}
-use Rattle.rinv_elim.specs.Action.{HaltsInAction, EliminationMeets}
+use Rattle.rinv_action.specs.Action.{HaltsInAction}
+use Rattle.rinv_elim.specs.Action.{EliminationMeets}
 use Rattle.rinv_elim.specs.Localising.{IsMissed}
 use Rattle.rinv_gens.specs.declared.kinds.Phase.{Phase}
 use Rattle.rinv_gens.specs.declared.kinds.Phase.TheVariants.{Group, Laws, Action, Tail}

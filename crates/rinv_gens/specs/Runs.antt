@@ -8,7 +8,7 @@ use Rattle.rinv_div.specs.declared.budget.Budget.{Budget}
 use Rattle.rinv_buch.specs.Kinds.{Found}
 use Rattle.rinv_buch.specs.Spent.{IsKept, SpendsOn, steps_of}
 use Rattle.rinv_laws.specs.Group.{IsGroupBasis}
-use Rattle.rinv_elim.specs.Action.{IsActionBasis}
+use Rattle.rinv_action.specs.Action.{IsActionBasis}
 
 -- the pairs and steps that a text allows, none of them spent
 abbrev pub budget_of : Told → Budget

@@ -9,7 +9,7 @@ ghost use Rattle.rinv_parts.specs.Points.{ArePolynomials};
 ghost use Rattle.rinv_frac.specs.Fractions.{IsStored};
 ghost use Rattle.rinv_reduction.specs.Localised.{IsCut, all_count};
 ghost use Rattle.rinv_tails.specs.Stored.{IsStoredRelation};
-ghost use Rattle.rinv_elim.specs.Action.{IsActionBasis};
+ghost use Rattle.rinv_action.specs.Action.{IsActionBasis};
 ghost use Rattle.rinv_coefficients.specs.Coefficients.{IsOrderedBasis, generators_of};
 ghost use Rattle.rinv_coefficients.specs.Ties.{Ties};
 ghost use Rattle.rinv_gens.specs.Relations.{AreReduced, AreUnreduced};
