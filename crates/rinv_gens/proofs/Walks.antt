@@ -4,7 +4,7 @@
 --   walk-meets, walk-within    the degrees that it meets
 --   among-more           among one more
 --   coefficients-more, coefficients-parts, walk-relation    one relation more
-use Rattle.std.proofs.Common.{◌≡◌, ℕ, ◌+◌, ◌<◌, ◌||◌, Bool, true, false, List, [], ◌∷◌, ◌++◌, length, get_or, map, take, drop, refl, sym, ap, ◌∙◌, subst, subst₂, append-nil, append_assoc, All}
+use Rattle.std.proofs.Common.{◌≡◌, ℕ, ◌+◌, ◌<◌, ◌||◌, Bool, true, false, List, [], ◌∷◌, ◌++◌, length, get_or, map, take, drop, refl, sym, ap, ◌∙◌, subst, subst₂, append-nil, append_assoc, true≢false, All}
 use Rattle.std.specs.Prelude.{if◌then◌else◌}
 use Rattle.std.specs.List.{list_any}
 use Rattle.std.proofs.lemmas.List.{take-append-drop}
@@ -52,6 +52,14 @@ module _ (p : ℕ) where
       go : (b : Bool) → All P (if b then cs else cs ++ c ∷ [])
       go true = all
       go false = All-push P cs c all own
+
+  -- with a fraction the list only grows
+  pub with-more : (cs : List Fraction) (c : Fraction) → (ds : List Fraction) × (with_new p cs c ≡ cs ++ ds)
+  with-more cs c = go (is_constant p c || is_among p cs c)
+    where
+      go : (b : Bool) → (ds : List Fraction) × ((if b then cs else cs ++ c ∷ []) ≡ cs ++ ds)
+      go true = ([], sym (append-nil cs))
+      go false = (c ∷ [], refl)
 
   -- of one fraction
   pub new-one : (cs : List Fraction) (c : Fraction) → cs ++ new_values p cs (c ∷ []) ≡ with_new p cs c
@@ -102,7 +110,7 @@ module _ (p : ℕ) where
   any-push (e ∷ ds) test d h k = both (test e) h (λ i. any-push ds test d i k)
     where
       both : (b : Bool) → (b || list_any test ds) ≡ false → (list_any test ds ≡ false → list_any test (ds ++ d ∷ []) ≡ false) → (b || list_any test (ds ++ d ∷ [])) ≡ false
-      both true h more = absurd h
+      both true h more = absurd (true≢false h)
       both false h more = more h
 
   -- one more fraction has not the value
