@@ -6,6 +6,7 @@
 --   Incomplete    the line of a work that ended before its end
 --   LawLines      the lines of laws, and of a line that is refused
 --   Pieces        the line of one fraction
+--   GeneratorLines    the lines of generators
 pub mod Answers
 pub mod Commands
 pub mod Told
@@ -13,3 +14,4 @@ pub mod Budgets
 pub mod Incomplete
 pub mod LawLines
 pub mod Pieces
+pub mod GeneratorLines

@@ -5,6 +5,7 @@ mod command;
 mod commands;
 mod ending;
 mod fraction;
+mod generator_lines;
 mod incomplete;
 mod law_lines;
 mod reply;

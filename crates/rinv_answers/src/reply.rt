@@ -4,7 +4,7 @@ ghost use Rattle.std.specs.Prelude.{◌<◌, ◌-◌, ◌^◌, length, IfOk};
 ghost use Rattle.rinv_answers.specs.Answers.{IsAnswer};
 
 use crate::command::Command;
-use crate::commands::{check, laws};
+use crate::commands::{check, generators, laws};
 use crate::ending::Ending;
 use std::alloc::{AllocError as NoMemory, Global};
 
@@ -16,5 +16,6 @@ pub fn answer(alloc: Global, command: Command, bytes: &[u8]) -> Result<(Vec<u8>,
     match command {
         Command::Check => check::answer(alloc, bytes),
         Command::Laws => laws::answer(alloc, bytes),
+        Command::Gen => generators::answer(alloc, bytes),
     }
 }

@@ -1,0 +1,4 @@
+pub mod MadeChanges
+pub mod WideLists
+pub mod DividedChanges
+pub mod ProvedChanges

@@ -1,0 +1,9 @@
+pub mod Walks
+pub mod Tied
+pub mod Apart
+pub mod NumberValues
+pub mod SearchedTerms
+pub mod Ordered
+pub mod MetBudgets
+pub mod Within
+pub mod Halted
