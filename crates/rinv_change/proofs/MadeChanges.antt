@@ -4,12 +4,12 @@
 --   past-stored                       a polynomial behind the group's variables
 --   product-stored, difference-stored    products and differences of what is stored
 --   change-is                         what a change is made of
-use Rattle.std.proofs.Common.{◌≡◌, ℕ, ◌+◌, ◌∙◌, List, [], ◌∷◌, length, nat_lt, refl, sym, subst, subst₂, inl, inr}
-use Rattle.std.specs.Prelude.{Result, Ok, Err, IfOk, IfErr, OnOk, ◌⊎◌, true}
+use Rattle.std.proofs.Common.{◌≡◌, ℕ, ◌∙◌, List, nat_lt, refl, sym, subst, subst₂, inl, inr}
+use Rattle.std.specs.Prelude.{Result, Ok, Err, IfOk, IfErr, OnOk, true}
 use Rattle.std.specs.Result.{MatchResult}
 use Rattle.rinv_algebra.specs.Ring.{IsSame}
 use Rattle.rinv_algebra.specs.Residue.{residue_ops}
-use Rattle.rinv_algebra.specs.Polynomial.{poly_ops, past, product, difference, opposite}
+use Rattle.rinv_algebra.specs.Polynomial.{poly_ops, past, product, difference}
 use Rattle.rinv_algebra.specs.Normal.{IsNormal}
 use Rattle.rinv_algebra.specs.Value.{substitute}
 use Rattle.rinv_algebra.specs.Fits.{substitution_fits}
@@ -24,7 +24,7 @@ use Rattle.rinv_poly.specs.Faults.{MonomialsMeet, polynomials_meet}
 use Rattle.rinv_poly.proofs.Meets.{meet-weaker}
 use Rattle.rinv_sub.specs.Refusal.{never}
 use Rattle.rinv_sub.proofs.Refused.{has-same}
-use Rattle.rinv_defs.specs.System.{System, Poly, group_count, space_count}
+use Rattle.rinv_defs.specs.System.{System, Poly, group_count}
 use Rattle.rinv_defs.specs.Invariant.{Fraction, at_moved_point, change}
 use Rattle.rinv_parts.specs.Points.{ArePolynomials, IsStoredIn}
 use Rattle.rinv_parts.specs.Substitutions.{IsValue, TakenMeets}

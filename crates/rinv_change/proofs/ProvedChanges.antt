@@ -4,7 +4,7 @@
 --   change-proved        the sums of products prove the fraction invariant
 --   sums-meet            the degrees that they meet
 --   wide-made            the lists of cofactors that were made
-use Rattle.std.proofs.Common.{◌≡◌, ◌<◌, ℕ, List, [], ◌∷◌, length, get_or, map, All, IsTrue, nat_lt, sym, ◌∙◌, subst, subst₂, inr}
+use Rattle.std.proofs.Common.{◌≡◌, ◌<◌, ℕ, List, [], ◌∷◌, length, get_or, map, All, sym, ◌∙◌, subst, subst₂, inr}
 use Rattle.std.specs.List.{AllZip, range_with_len}
 use Rattle.std.proofs.lemmas.List.{length-map}
 use Rattle.std.proofs.lemmas.List.Elements.{length_all_zip, All-nil, All-cons, All-head, All-map, All-tail}
@@ -12,7 +12,7 @@ use Rattle.std.proofs.lemmas.List.FromFn.{length-range_with_len}
 use Rattle.rinv_algebra.specs.Ring.{IsSame}
 use Rattle.rinv_algebra.specs.Residue.{residue_ops}
 use Rattle.rinv_algebra.specs.Order.{grevlex}
-use Rattle.rinv_algebra.specs.Polynomial.{poly_ops, is_zero}
+use Rattle.rinv_algebra.specs.Polynomial.{poly_ops}
 use Rattle.rinv_algebra.specs.Ideal.{combination}
 use Rattle.rinv_algebra.proofs.PolynomialLaws.{poly_laws}
 use Rattle.rinv_algebra.proofs.ResidueLaws.{residue_laws}
@@ -20,7 +20,6 @@ use Rattle.rinv_algebra.proofs.RingFacts as facts
 use Rattle.rinv_groebner.specs.Division.{AreSame, quotients, quotient_at}
 use Rattle.rinv_ring.specs.Fault.{DegreesMeet}
 use Rattle.rinv_ring.specs.declared.fault.RingFault.{RingFault}
-use Rattle.rinv_poly.specs.Faults.{MonomialsMeet}
 use Rattle.rinv_poly.proofs.Meets.{meet-weaker}
 use Rattle.rinv_div.proofs.Summed.{identity}
 use Rattle.rinv_buch.specs.Kinds.{Found}
@@ -32,8 +31,8 @@ use Rattle.rinv_parts.specs.Points.{ArePolynomials}
 use Rattle.rinv_laws.specs.Proofs.{KeepCofactors, ProductsMeet, chosen, kept_elements}
 use Rattle.rinv_change.specs.Asked.{IsChangeRing}
 use Rattle.rinv_laws.proofs.CopiedCofactors.{entries-same}
-use Rattle.rinv_change.specs.Changes.{DividesChange, change_count}
-use Rattle.rinv_change.specs.Cofactors.{AreQuotientsOf, AreWideCofactors, CofactorMeets, FollowRule, ProofMeets, ProvesInvariance}
+use Rattle.rinv_change.specs.Changes.{change_count}
+use Rattle.rinv_change.specs.Cofactors.{AreQuotientsOf, AreWideCofactors, FollowRule, ProofMeets, ProvesInvariance}
 use Rattle.rinv_change.proofs.WideLists.{columns-same}
 
 -- lists are as long as those that they are the same as

@@ -1,5 +1,5 @@
 -- What the test of a fraction is made of: the ring of changes, the change, and the kept elements of the group's basis.
-use Rattle.std.specs.Prelude.{◌≡◌, ℕ, ◌+◌, List, nat_lt}
+use Rattle.std.specs.Prelude.{◌≡◌, ℕ, nat_lt}
 use Rattle.rinv_algebra.specs.Residue.{residue_ops}
 use Rattle.rinv_algebra.specs.Order.{grevlex}
 use Rattle.rinv_groebner.specs.Division.{AreSame}

@@ -1,4 +1,4 @@
-use Rattle.std.proofs.Common.{◌≡◌, ◌∙◌, ◌+◌, ℕ, length, ap, ap₂}
+use Rattle.std.proofs.Common.{◌∙◌, ◌+◌, ℕ, length, ap, ap₂}
 use Rattle.rinv_text.specs.Told.{Told}
 use Rattle.rinv_change.proofs.changing.change_ring.Goals as goal
 

@@ -1,4 +1,4 @@
-use Rattle.std.proofs.Common.{◌≡◌, ◌<◌, ◌≤◌, ◌∙◌, ◌+◌, ℕ, List, length, map, All, sym, ap, subst, subst₂, arith}
+use Rattle.std.proofs.Common.{◌≡◌, ◌<◌, ◌∙◌, ℕ, List, length, All, sym, ap, subst, subst₂, arith}
 use Rattle.rinv_text.specs.Told.{Told}
 use Rattle.rinv_defs.specs.System.{group_count}
 use Rattle.rinv_parts.specs.Points.{ArePolynomials}

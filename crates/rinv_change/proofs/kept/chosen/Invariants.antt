@@ -1,4 +1,4 @@
-use Rattle.std.proofs.Common.{◌≡◌, [], map, take, get_or}
+use Rattle.std.proofs.Common.{[], map, take, get_or}
 use Rattle.rinv_algebra.specs.Residue.{residue_ops}
 use Rattle.rinv_groebner.specs.Division.{AreSame}
 use Rattle.rinv_parts.specs.Points.{ArePolynomials}

@@ -1,6 +1,4 @@
-use Rattle.std.proofs.Common.{◌≡◌, ◌<◌, ◌≤◌, ◌∙◌, ◌+◌, ℕ, List, [], map, length, get_or, All, sym, ap, subst, subst₂, arith, nat_lt, false}
-use Rattle.rinv_algebra.specs.Order.{grevlex}
-use Rattle.rinv_algebra.specs.Residue.{residue_ops}
+use Rattle.std.proofs.Common.{◌≡◌, ◌<◌, ◌∙◌, ℕ, List, length, All, sym, ap, subst₂, arith}
 use Rattle.rinv_text.specs.Told.{Told}
 use Rattle.rinv_defs.specs.System.{Poly, group_count}
 use Rattle.rinv_parts.proofs.Stored.{normal-over as all-over}
