@@ -11,11 +11,13 @@ mod copied;
 pub mod faults;
 mod group;
 mod proving;
+mod quickly;
 mod stop;
 mod testing;
 
 pub use group::{GroupBasis, group_basis};
 pub use proving::{LawProofs, check_laws};
+pub use quickly::laws_hold;
 pub use rinv_parts::LawName;
 pub use stop::{LawFault, LawStop};
 pub use testing::{LawQuotients, test_laws};

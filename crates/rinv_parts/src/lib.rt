@@ -2,6 +2,7 @@
 //!
 //! - `LawName`: the laws by their names
 //! - `parts_of`: the ring of a law, and the points at which its parts take the system's polynomials
+//! - `law_polynomials`: the polynomials of which a law speaks
 //! - `part_count`, `part_at`: how many parts there are, and the part at a place
 //! - `variables_of`: how many variables the parts of a law have
 #![tactic(auto)]
@@ -14,4 +15,4 @@ mod taken;
 
 pub use law::LawName;
 pub use law_points::LawPoints;
-pub use parts::{LawParts, part_at, part_count, parts_of, variables_of};
+pub use parts::{LawParts, law_polynomials, part_at, part_count, parts_of, variables_of};

@@ -43,8 +43,8 @@ pub fn variables_of(system: &System, law: LawName) -> u32
     }
 }
 
-// The polynomials of which a law speaks.
-fn law_polynomials(system: &System, law: LawName) -> &[KPoly]
+/// The polynomials of which a law speaks.
+pub fn law_polynomials(system: &System, law: LawName) -> &[KPoly]
     ensures { result.now ≡ law_polynomials system.now.system (law_of law) }
 {
     match law {

@@ -1,0 +1,3 @@
+pub mod Congruences
+pub mod Powers
+pub mod Values
