@@ -1,6 +1,7 @@
 //! The laws of a group and of its action, tested by ideal membership.
 //!
 //! - `group_basis`: the Gröbner basis of the group's ideal, and the reduced one
+//! - `laws_hold`: whether the laws are found to hold by values modulo the ideal, which is quick and may not find it
 //! - `test_laws`: whether the laws hold, or the first part that is false
 //! - `check_laws`: the same, with cofactors that prove each part
 //! - `faults`: there is one first fault

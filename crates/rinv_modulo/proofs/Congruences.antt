@@ -1,7 +1,8 @@
 -- Congruence modulo the ideal of a list of polynomials.
 --   congruent-same, congruent-then    what is the same, and one after the other
 --   congruent-add, congruent-less, congruent-mul, congruent-times_all    sums, differences, products
---   congruent-rest, congruent_zero    what a division leaves, and where it leaves nothing
+--   congruent-rest       what a division leaves
+--   congruent-member, congruent_zero    members of the ideal
 use Rattle.std.proofs.Common.{◌≡◌, ℕ, List, [], ◌∷◌, ◌++◌, refl, sym, ap, ap₂, ◌∙◌, IsTrue}
 use Rattle.std.specs.declared.cmp.Ordering.{Ordering}
 use Rattle.rinv_algebra.specs.Ring.{RingOps, RingLaws, IsSame}
@@ -83,8 +84,12 @@ module _ {E : Type 0} (o : RingOps E) (l : RingLaws o) (hs : List (Polynomial E)
   pub congruent-rest : (cmp : List ℕ → List ℕ → Ordering) (f r : Polynomial E) (steps : List (Step E)) → IsDivision o cmp hs f steps r → AreCongruent o hs f r
   congruent-rest cmp f r steps d = steps-congruent o l cmp hs hs (own_members o l hs) f steps r d.by_steps
 
-  -- what is congruent to zero lies in the ideal
-  pub congruent_zero : (f r : Polynomial E) → AreCongruent o hs f r → IsTrue (is_zero o r) → IsMember o hs f
-  congruent_zero f r a z = member-same o l hs (difference o f r ++ r) f (class_exact (poly_ops o) (poly_laws o l) _ _ (
+  -- what is congruent to a member is one
+  pub congruent-member : (f r : Polynomial E) → AreCongruent o hs f r → IsMember o hs r → IsMember o hs f
+  congruent-member f r a m = member-same o l hs (difference o f r ++ r) f (class_exact (poly_ops o) (poly_laws o l) _ _ (
       class-add (poly_ops o) (poly_laws o l) _ _ ∙ ap (λ x. (poly_ring o l).add x (class (poly_ops o) r)) (class-difference o l f r) ∙ sym (restored (poly_ring o l) _ _)))
-      (member-add o l hs _ _ a (member_zero o l hs r z))
+      (member-add o l hs _ _ a m)
+
+  -- and what is congruent to zero
+  pub congruent_zero : (f r : Polynomial E) → AreCongruent o hs f r → IsTrue (is_zero o r) → IsMember o hs f
+  congruent_zero f r a z = congruent-member f r a (member_zero o l hs r z)

@@ -54,8 +54,8 @@ pub fn law_polynomials(system: &System, law: LawName) -> &[KPoly]
     }
 }
 
-// The number of their variables.
-fn polynomial_variables(system: &System, law: LawName) -> u32
+/// The number of their variables.
+pub fn polynomial_variables(system: &System, law: LawName) -> u32
     requires { IsSystem system.now.system }
     ensures { result ≡ polynomial_variables system.now.system (law_of law) }
 {
