@@ -8,7 +8,7 @@ use Rattle.rinv_modulo.specs.Congruence.{StandsFor}
 use Rattle.rinv_defs.specs.System.{Poly}
 use Rattle.rinv_parts.specs.declared.law_points.LawPoints.{LawPoints}
 use Rattle.rinv_parts.specs.declared.law_points.LawPoints.TheVariants.{Vanish, Agree, Give, GiveBoth}
-use Rattle.rinv_parts.specs.Points.{ArePolynomials, Points, vanish, agree, give, give_both, part_number}
+use Rattle.rinv_parts.specs.Points.{ArePolynomials, Points, vanish, agree, give, give_both}
 use Rattle.rinv_parts.specs.Substitutions.{made_at}
 
 -- place by place, the values stand for the polynomials fs at the point x

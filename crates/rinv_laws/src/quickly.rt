@@ -45,11 +45,10 @@ fn values_at(
     let tables = tables_modulo(ring, alloc, point, &greatest, &basis.polys, &basis.divisors)?;
     let mut values = Vec::new(alloc);
     'polynomials: for k in 0..fs.len() {
-        let terms = fs[k].terms();
         let value = value_modulo(
             ring,
             alloc,
-            terms,
+            fs[k].terms(),
             point,
             &tables,
             &basis.polys,

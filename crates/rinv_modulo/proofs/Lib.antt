@@ -1,3 +1,3 @@
 pub mod Congruences
 pub mod Powers
-pub mod Values
+pub mod TermValues

@@ -2,9 +2,9 @@
 --   stands-product       a product of what stands for others
 --   power-first, power-next, powers-push     tables of powers
 --   times-known, times-none, times-next      products with powers
-use Rattle.std.proofs.Common.{◌≡◌, ℕ, ◌+◌, ◌<◌, List, [], ◌∷◌, ◌++◌, length, get_or, nat_lt, arith, length-append}
+use Rattle.std.proofs.Common.{◌≡◌, ℕ, ◌+◌, List, [], ◌∷◌, ◌++◌, length, nat_lt, arith, length-append}
 use Rattle.std.specs.Prelude.{replicate}
-use Rattle.rinv_algebra.specs.Ring.{RingOps, IsSame}
+use Rattle.rinv_algebra.specs.Ring.{IsSame}
 use Rattle.rinv_algebra.specs.Residue.{residue_ops}
 use Rattle.rinv_algebra.specs.Polynomial.{Polynomial, poly_ops, product}
 use Rattle.rinv_algebra.specs.Normal.{IsNormal}

@@ -1,6 +1,6 @@
 //! Values of polynomials modulo an ideal, by tables of the powers of the images.
 
-ghost use Rattle.std.specs.Prelude.{◌≡◌, ◌<◌, length, map, nat_lt, replicate, All, IfOk};
+ghost use Rattle.std.specs.Prelude.{◌≡◌, length, map, nat_lt, replicate, All, IsTrue, IfOk};
 ghost use Rattle.rinv_algebra.specs.Residue.{residue_ops};
 ghost use Rattle.rinv_algebra.specs.Order.{grevlex};
 ghost use Rattle.rinv_algebra.specs.Polynomial.{constant, poly_ops};
@@ -59,7 +59,7 @@ fn term_modulo(
     basis: &[KPoly],
     divisors: &Divisors<Gf>,
 ) -> Result<KPoly, RingFault>
-    requires coefficient { coefficient < ring.now.coeffs }
+    requires coefficient { IsTrue (nat_lt coefficient ring.now.coeffs) }
     requires many { length images.now ≡ length mono.now }
     requires images { All (IsNormal (residue_ops ring.now.coeffs) (λ c. nat_lt c ring.now.coeffs) ring.now.vars) images.now }
     requires tables { AreTablesModulo ring.now.coeffs ring.now.vars basis.now images.now (map (λ t. t.items) tables.now) }
@@ -68,13 +68,12 @@ fn term_modulo(
 {
     let mut product = ring.constant(alloc, coefficient)?;
     'images: for k in 0..mono.vars() {
-        let (image, powers) = (&images[k as usize], &tables[k as usize]);
         product = times_power(
             ring,
             alloc,
             product,
-            image,
-            powers,
+            &images[k as usize],
+            &tables[k as usize],
             mono.exponent(k),
             basis,
             divisors,

@@ -48,8 +48,8 @@ fn tested(alloc: Global, system: &System) -> Result<(Vec<u8>, Ending), NoMemory>
         }
         Err(Stop::NoMemory) => return Err(NoMemory),
     };
-    let quickly = laws_hold(alloc, system, &group)?;
-    if quickly {
+    let hold = laws_hold(alloc, system, &group)?;
+    if hold {
         let text = hold_line(alloc)?;
         return Ok((text, Ending::Done));
     }

@@ -1,7 +1,7 @@
 use Rattle.std.proofs.Common.{List, subst₂}
 use Rattle.rinv_defs.specs.System.{Poly}
 use Rattle.rinv_laws.specs.Modulo.{DifferInIdeal}
-use Rattle.rinv_laws.proofs.Quickly.{agree-parts}
+use Rattle.rinv_laws.proofs.LawsModulo.{agree-parts}
 use Rattle.rinv_laws.proofs.quickly.agree_at.Goals as goal
 
 pub returns : goal.returns

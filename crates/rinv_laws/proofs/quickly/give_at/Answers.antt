@@ -1,7 +1,7 @@
 use Rattle.std.proofs.Common.{List, subst}
 use Rattle.rinv_defs.specs.System.{Poly}
 use Rattle.rinv_laws.specs.Modulo.{DifferInIdeal}
-use Rattle.rinv_laws.proofs.Quickly.{give-parts}
+use Rattle.rinv_laws.proofs.LawsModulo.{give-parts}
 use Rattle.rinv_laws.proofs.quickly.give_at.Goals as goal
 
 pub returns : goal.returns

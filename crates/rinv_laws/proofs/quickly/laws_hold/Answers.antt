@@ -7,7 +7,7 @@ use Rattle.rinv_parts.specs.LawNames.{law_of}
 use Rattle.rinv_parts.proofs.Stored.{normal-over as over}
 use Rattle.rinv_laws.proofs.GroupCopies.{polys-nonzero, nonzero-over, kept-over}
 use Rattle.rinv_laws.proofs.LawsInTurn.{names, rank-listed}
-use Rattle.rinv_laws.proofs.Quickly.{laws-none, laws-more, laws-all}
+use Rattle.rinv_laws.proofs.LawsModulo.{laws-none, laws-more, laws-all}
 use Rattle.rinv_laws.proofs.quickly.laws_hold.Goals as goal
 
 pub kept_places-requires-clause-polys : goal.kept_places-requires-clause-polys
@@ -31,7 +31,7 @@ laws-init c = laws-none c.args.system.now.system
 
 pub laws-preserved : goal.laws-preserved
 laws-preserved c =
-    laws-more c.args.system.now.system c.laws.k (law_of (get_or names c.laws.k L1)) (rank-listed c.laws.k c.laws-test.true) c.laws.invariant (c.in_ok-holds.ensures c.if-holds.true)
+    laws-more c.args.system.now.system c.laws.k (law_of (get_or names c.laws.k L1)) (rank-listed c.laws.k c.laws-test.true) c.laws.invariant (c.in_ok-holds.ensures c.if-not-holds.false)
 
 pub law_holds-requires-clause-inside : goal.law_holds-requires-clause-inside
 law_holds-requires-clause-inside c =

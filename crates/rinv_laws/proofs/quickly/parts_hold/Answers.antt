@@ -1,4 +1,4 @@
-use Rattle.std.proofs.Common.{◌≡◌, ℕ, List, length, nat_lt, sym, ap, subst₂}
+use Rattle.std.proofs.Common.{ℕ, List, length, nat_lt, sym, ap, subst₂}
 use Rattle.rinv_algebra.specs.Order.{grevlex}
 use Rattle.rinv_algebra.specs.Residue.{residue_ops}
 use Rattle.rinv_div.specs.Divisors.{AreDivisors}
@@ -7,7 +7,7 @@ use Rattle.rinv_parts.specs.LawNames.{law_of, polynomial_variables, variables_of
 use Rattle.rinv_parts.specs.Points.{law_polynomials}
 use Rattle.rinv_parts.proofs.PartCounts.{coordinates-over, points-form, polynomials-normal}
 use Rattle.rinv_parts.proofs.Stored.{normal-over}
-use Rattle.rinv_laws.proofs.Quickly.{law-holds}
+use Rattle.rinv_laws.proofs.LawsModulo.{law-holds}
 use Rattle.rinv_laws.proofs.quickly.parts_hold.Goals as goal
 
 pub polynomial_variables-requires : goal.polynomial_variables-requires

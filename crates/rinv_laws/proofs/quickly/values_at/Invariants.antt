@@ -1,4 +1,4 @@
-use Rattle.rinv_laws.proofs.Quickly.{SoFar}
+use Rattle.rinv_laws.proofs.LawsModulo.{SoFar}
 use Rattle.rinv_laws.proofs.quickly.values_at.Given as goal
 
 abbrev pub invariant-polynomials : goal.invariant-polynomials

@@ -1,7 +1,7 @@
 use Rattle.std.proofs.Common.{List, subst}
 use Rattle.rinv_defs.specs.System.{Poly}
 use Rattle.rinv_laws.specs.Modulo.{AreInIdeal}
-use Rattle.rinv_laws.proofs.Quickly.{vanish-parts}
+use Rattle.rinv_laws.proofs.LawsModulo.{vanish-parts}
 use Rattle.rinv_laws.proofs.quickly.vanish_at.Goals as goal
 
 pub returns : goal.returns

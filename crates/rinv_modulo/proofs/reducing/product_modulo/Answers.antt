@@ -1,5 +1,5 @@
 use Rattle.rinv_algebra.specs.Residue.{residue_ops}
-use Rattle.rinv_algebra.specs.Polynomial.{poly_ops, product}
+use Rattle.rinv_algebra.specs.Polynomial.{product}
 use Rattle.rinv_algebra.proofs.PolynomialLaws.{poly_laws}
 use Rattle.rinv_algebra.proofs.ResidueLaws.{residue_laws}
 use Rattle.rinv_modulo.proofs.Powers.{stands-same}

@@ -4,8 +4,7 @@
 --   vanish-parts, agree-parts, give-parts, both-parts    what the values say of the parts
 --   law-holds               the parts of a law, from its points as they are stored
 --   laws-none, laws-more, laws-all    one law after another
-use Rattle.std.proofs.Common.{◌≡◌, ℕ, ◌+◌, ◌-◌, ◌<◌, ◌≤◌, true, false, List, [], ◌∷◌, ◌++◌, length, length-append, get_or, nat_lt, refl, sym, ap, ◌∙◌, subst, inl, inr, arith, IsTrue}
-use Rattle.std.specs.Prelude.{if◌then◌else◌}
+use Rattle.std.proofs.Common.{◌≡◌, ℕ, ◌+◌, ◌-◌, ◌<◌, ◌≤◌, true, false, List, [], ◌∷◌, ◌++◌, length, length-append, get_or, nat_lt, refl, sym, ◌∙◌, subst, inl, inr, arith, IsTrue}
 use Rattle.std.proofs.lemmas.Bool.{cases_lt}
 use Rattle.std.proofs.lemmas.Bool.Decides.{nat_tests}
 use Rattle.std.proofs.lemmas.List.{get_or_default}
@@ -19,11 +18,10 @@ use Rattle.rinv_algebra.specs.Ideal.{IsMember}
 use Rattle.rinv_algebra.proofs.PolynomialLaws.{poly_laws}
 use Rattle.rinv_algebra.proofs.ResidueLaws.{residue_laws}
 use Rattle.rinv_algebra.proofs.RingFacts as facts
-use Rattle.rinv_groebner.specs.Basis.{AreMembers}
 use Rattle.rinv_groebner.proofs.MemberLists.{member-same, member_trans}
 use Rattle.rinv_sub.proofs.Images.{substitute-images}
 use Rattle.rinv_sub.proofs.KnownPowers.{each-push}
-use Rattle.rinv_modulo.specs.Congruence.{AreCongruent, StandsFor}
+use Rattle.rinv_modulo.specs.Congruence.{StandsFor}
 use Rattle.rinv_modulo.proofs.Congruences.{congruent-less, congruent-member, congruent-same, congruent_zero}
 use Rattle.rinv_buch.specs.Kinds.{Found}
 use Rattle.rinv_defs.specs.System.{System, Poly, ideal_copies}
@@ -180,7 +178,7 @@ module _ (p v : ℕ) (hs : List Poly) where
 
 module _ (s : System) (found : Found ℕ) (reduced : List Poly) (system : IsSystem s) (group : IsGroupBasis s found reduced) (law : Law) (b : CopiedBasis) (basis : IsCopiedBasis s found law b) (stored : LawPoints)
     (points : ArePoints s.p (variables_of s law) (law_points s law) stored) where
-  has-values : (stored : LawPoints) (m : ℕ) → AreCoordinates s.p (variables_of s law) m (length (law_polynomials s law)) stored → (x : Points) → ArePoints s.p (variables_of s law) x stored → HasValues s.p (variables_of s law) b.polys.items (law_polynomials s law) x
+  has-values : (kept : LawPoints) (m : ℕ) → AreCoordinates s.p (variables_of s law) m (length (law_polynomials s law)) kept → (x : Points) → ArePoints s.p (variables_of s law) x kept → HasValues s.p (variables_of s law) b.polys.items (law_polynomials s law) x
   has-values (Vanish a) m h (vanish x) g = tt
   has-values (Vanish a) m h (agree x y) g = absurd g
   has-values (Vanish a) m h (give x z) g = absurd g

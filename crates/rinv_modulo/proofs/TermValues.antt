@@ -3,7 +3,7 @@
 --   values-halves, values-one, values-none    the values of lists of terms
 use Rattle.std.proofs.Common.{◌≡◌, ℕ, ◌+◌, ◌<◌, List, [], ◌∷◌, ◌++◌, length, take, get_or, nat_lt, sym, ap, ◌∙◌, subst, arith}
 use Rattle.std.specs.Prelude.{replicate}
-use Rattle.rinv_algebra.specs.Ring.{RingOps, IsSame}
+use Rattle.rinv_algebra.specs.Ring.{IsSame}
 use Rattle.rinv_algebra.specs.Residue.{residue_ops}
 use Rattle.rinv_algebra.specs.Polynomial.{Term, Polynomial, poly_ops, constant}
 use Rattle.rinv_algebra.specs.Normal.{IsNormal}
@@ -36,7 +36,7 @@ module _ (p v : ℕ) (hs : List (Polynomial ℕ)) where
   module _ (images : List (Polynomial ℕ)) where
     pub values-none : (terms r : Polynomial ℕ) → terms ≡ [] → IsNormal (residue_ops p) (λ c. nat_lt c p) v r → IsSame (poly_ops (residue_ops p)) r [] → StandsFor p v hs (value (poly_ops (residue_ops p)) (constant (residue_ops p)) images terms) r
     unfolding value
-    values-none terms r e normal s = rw e (stands-self [] r normal s)
+    values-none terms r e normal s = rw e (stands-self p v hs [] r normal s)
 
     pub values-one : (terms : Polynomial ℕ) (t : Term ℕ) (r : Polynomial ℕ) → terms ≡ t ∷ [] → StandsFor p v hs (times_all (poly_ops (residue_ops p)) (constant (residue_ops p) t.1) (factors images t.0)) r
         → StandsFor p v hs (value (poly_ops (residue_ops p)) (constant (residue_ops p)) images terms) r
@@ -45,7 +45,7 @@ module _ (p v : ℕ) (hs : List (Polynomial ℕ)) where
         let o = residue_ops p in
         let q = poly_laws o (residue_laws p) in
         let x : Polynomial ℕ = times_all (poly_ops o) (constant o t.1) (factors images t.0) in
-        rw e (stands-same (x ++ []) x r (q.add_zero x) h)
+        rw e (stands-same p v hs (x ++ []) x r (q.add_zero x) h)
 
     pub values-halves : (a b whole x y r : Polynomial ℕ) → whole ≡ a ++ b → StandsFor p v hs (value (poly_ops (residue_ops p)) (constant (residue_ops p)) images a) x → StandsFor p v hs (value (poly_ops (residue_ops p)) (constant (residue_ops p)) images b) y
         → IsNormal (residue_ops p) (λ c. nat_lt c p) v r → IsSame (poly_ops (residue_ops p)) r (x ++ y) → StandsFor p v hs (value (poly_ops (residue_ops p)) (constant (residue_ops p)) images whole) r
@@ -54,7 +54,7 @@ module _ (p v : ℕ) (hs : List (Polynomial ℕ)) where
         let l = residue_laws p in
         let q = poly_laws o l in
         let at : Polynomial ℕ → Polynomial ℕ = value (poly_ops o) (constant o) images in
-        rw e (stands-same (at (a ++ b)) (at a ++ at b) r (value-append (poly_ops o) q (constant o) images a b) (record {
+        rw e (stands-same p v hs (at (a ++ b)) (at a ++ at b) r (value-append (poly_ops o) q (constant o) images a b) (record {
           normal = normal;
           congruent = congruent-then o l hs (at a ++ at b) (x ++ y) r (congruent-add o l hs (at a) (at b) x y s.congruent t.congruent) (congruent-same o l hs (x ++ y) r (facts.back (poly_ops o) q u));
         }))
