@@ -1,8 +1,14 @@
-use Rattle.std.proofs.Common.{List, subst}
+use Rattle.std.proofs.Common.{List, subst, ◌∙◌, sym}
 use Rattle.rinv_defs.specs.System.{Poly}
 use Rattle.rinv_laws.specs.Modulo.{DifferInIdeal}
 use Rattle.rinv_laws.proofs.LawsModulo.{give-parts}
 use Rattle.rinv_laws.proofs.quickly.give_at.Goals as goal
+
+pub are_same-requires-clause-many : goal.are_same-requires-clause-many
+are_same-requires-clause-many c = rw c.deref.ensures.value (c.in_ok-values.ensures.many ∙ sym c.requires.wanted.many)
+
+pub are_same-requires-clause-left : goal.are_same-requires-clause-left
+are_same-requires-clause-left c = rw c.deref.ensures.value c.in_ok-values.ensures.normal
 
 pub returns : goal.returns
 returns c = λ e.

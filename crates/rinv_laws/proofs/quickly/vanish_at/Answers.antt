@@ -4,6 +4,9 @@ use Rattle.rinv_laws.specs.Modulo.{AreInIdeal}
 use Rattle.rinv_laws.proofs.LawsModulo.{vanish-parts}
 use Rattle.rinv_laws.proofs.quickly.vanish_at.Goals as goal
 
+pub are_zero-requires-clause-polynomials : goal.are_zero-requires-clause-polynomials
+are_zero-requires-clause-polynomials c = rw c.deref.ensures.value c.in_ok-values.ensures.normal
+
 pub returns : goal.returns
 returns c = λ e.
     let p = c.args.ring.now.coeffs in
