@@ -1,15 +1,11 @@
 -- Arrays of JSON, as lists.
-use Rattle.std.proofs.Common.{◌≡◌, ℕ, ◌+◌, ◌<◌, ◌≤◌, List, [], ◌∷◌, ◌++◌, map, length, get_or, drop, Option, Some, None, option_map, option_and_then, unwrap_or, refl, sym, ap, ◌∙◌, add-one, drop-cons, append_assoc}
+use Rattle.std.proofs.Common.{◌≡◌, ℕ, ◌+◌, ◌<◌, ◌≤◌, List, [], ◌∷◌, ◌++◌, map, length, get_or, drop, Option, Some, None, option_map, refl, sym, ap, ◌∙◌, add-one, drop-cons, append_assoc}
 use Rattle.std.proofs.lemmas.List.{append-nil, drop_all}
-use Rattle.std.proofs.lemmas.Option.{none-some}
-use Rattle.serde_json.specs.Data.{Data, null, boolean, number, string, array, object, Members}
-use Rattle.serde_json.specs.Events.{members_len}
-use Rattle.serde_json.specs.Read.{read}
-use Rattle.rinv_defs.specs.Certificate.{Certificate}
-use Rattle.serde_json.specs.Find.{as_array, as_object}
+use Rattle.serde_json.specs.Data.{Data}
+use Rattle.serde_json.specs.Find.{as_array}
 use Rattle.serde_json.specs.View.{view, items_of, items_view}
 use Rattle.serde_json.specs.declared.value.Value.{Value}
-use Rattle.rinv_defs.specs.Json.{each, elements, list_of, pair_of, member_count, certificate_of, certificate_in, DenotesCertificate, ◌>>=◌}
+use Rattle.rinv_json.specs.Shapes.{each, elements, list_of, pair_of, triple_of, quadruple_of, ◌>>=◌}
 
 -- what was read, and then what the rest reads as
 abbrev pub with_front : {A : Type 0} → List A → Option (List A) → Option (List A)
@@ -75,28 +71,21 @@ pair-short f g d (v ∷ []) e h = rw (← e) refl
 pair-short f g d (v ∷ w ∷ []) e h = absurd (h refl)
 pair-short f g d (v ∷ w ∷ x ∷ vs) e h = rw (← e) refl
 
--- ---- objects
+-- ---- arrays of three
 
-pub member_count-object : (d : Data) (ms : Members) → Some ms ≡ as_object d → member_count d ≡ members_len ms
-member_count-object null ms e = absurd (none-some ms (sym e))
-member_count-object (boolean b) ms e = absurd (none-some ms (sym e))
-member_count-object (number n) ms e = absurd (none-some ms (sym e))
-member_count-object (string s) ms e = absurd (none-some ms (sym e))
-member_count-object (array ds) ms e = absurd (none-some ms (sym e))
-member_count-object (object ns) ms e = ap members_len (some_same ns ms (sym e))
-  where
-    some_same : (ns ms : Members) → Some ns ≡ Some ms → ns ≡ ms
-    some_same ns ms e = ap (λ o. unwrap_or o ns) e
+pub triple-short : {A B C : Type 0} (f : Data → Option A) (g : Data → Option B) (h : Data → Option C) (d : Data) (vs : List Value) → Some (items_view vs) ≡ as_array d → (length vs ≡ 3 → ⊥) → None ≡ triple_of f g h d
+triple-short f g h d [] e n = rw (← e) refl
+triple-short f g h d (v ∷ []) e n = rw (← e) refl
+triple-short f g h d (v ∷ w ∷ []) e n = rw (← e) refl
+triple-short f g h d (v ∷ w ∷ x ∷ []) e n = absurd (n refl)
+triple-short f g h d (v ∷ w ∷ x ∷ y ∷ vs) e n = rw (← e) refl
 
--- ---- bytes
+-- ---- arrays of four
 
-pub denoted : (bytes : List ℕ) (d : Data) (o : Option Certificate) → read bytes ≡ Some d → o ≡ certificate_of d → certificate_in bytes ≡ o
-unfolding certificate_in
-denoted bytes d o e f = ap (option_and_then certificate_of) e ∙ sym f
-
-pub not_denoted : (bytes : List ℕ) → read bytes ≡ None → certificate_in bytes ≡ None
-unfolding certificate_in
-not_denoted bytes e = ap (option_and_then certificate_of) e
-
-pub nothing_denoted : (bytes : List ℕ) → certificate_in bytes ≡ None → (c : Certificate) → DenotesCertificate bytes c → ⊥
-nothing_denoted bytes e c d = none-some c (sym e ∙ d.read_as)
+pub quadruple-short : {A B C D : Type 0} (f : Data → Option A) (g : Data → Option B) (h : Data → Option C) (i : Data → Option D) (d : Data) (vs : List Value) → Some (items_view vs) ≡ as_array d → (length vs ≡ 4 → ⊥) → None ≡ quadruple_of f g h i d
+quadruple-short f g h i d [] e n = rw (← e) refl
+quadruple-short f g h i d (v ∷ []) e n = rw (← e) refl
+quadruple-short f g h i d (v ∷ w ∷ []) e n = rw (← e) refl
+quadruple-short f g h i d (v ∷ w ∷ x ∷ []) e n = rw (← e) refl
+quadruple-short f g h i d (v ∷ w ∷ x ∷ y ∷ []) e n = absurd (n refl)
+quadruple-short f g h i d (v ∷ w ∷ x ∷ y ∷ z ∷ vs) e n = rw (← e) refl

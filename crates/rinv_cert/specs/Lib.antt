@@ -1,1 +1,7 @@
+-- the certificate that a value stands for
+pub mod Seen
+-- as what its parts are read and written
+pub mod Shaped
+pub mod KeySets
+-- what an answer of the reader says
 pub mod Faults

@@ -1,7 +1,17 @@
-//! A certificate of kind `invariance`, as it is written: plain lists, of which no length or range is known.
+//! A certificate, as it is written: plain lists, of which no length or range is known.
+//!
+//! `P` is what stands for a polynomial: the list of its terms.
 
 use crate::items::{Items, Name};
 use std::marker::Model;
+
+/// What a certificate shows: that its fractions are invariant; that the laws hold too; that the fractions generate too.
+#[derive(Clone, Copy, Debug, PartialEq, Eq)]
+pub enum Kind {
+    Invariance,
+    Sound,
+    Full,
+}
 
 /// A coefficient, and the exponents of its monomial.
 #[derive(Drop)]
@@ -22,61 +32,100 @@ impl Model for Term {
 /// A polynomial, as the list of its terms.
 pub type Polynomial = Items<Term>;
 
+/// An element of a basis, and its cofactors.
+#[derive(Drop)]
+pub struct BasisItem<P> {
+    pub h: P,
+    pub cofactors: Items<P>,
+}
+
+impl<P> Model for BasisItem<P> {
+    ghost use Rattle.std.specs.Prelude.{List};
+
+    ghost Value = { P × List P };
+
+    ghost view = { λ b. (b.h, b.cofactors) };
+}
+
+/// Why the pair of elements i and j, counted from 1, reduces to zero.
+#[derive(Drop)]
+pub enum PairItem<P> {
+    Coprime { i: u32, j: u32 },
+    Chain { i: u32, j: u32, k: u32 },
+    Quotients { i: u32, j: u32, q: Items<P> },
+}
+
+/// What a coefficient of a relation is: a constant, or the fraction with a number from 1.
+#[derive(Drop)]
+pub enum Tied {
+    Constant { v: u32 },
+    Generator { k: u32 },
+}
+
+/// A term of a relation's tail.
+#[derive(Drop)]
+pub struct TailItem<P> {
+    pub alpha: Items<u32>,
+    pub c: P,
+    pub tied: Tied,
+}
+
+impl<P> Model for TailItem<P> {
+    ghost use Rattle.std.specs.Prelude.{ℕ, List};
+    ghost use Rattle.rinv_cert.specs.declared.certificate.Tied.{Tied};
+
+    ghost Value = { List ℕ × P × Tied };
+
+    ghost view = { λ t. (t.alpha, t.c, t.tied) };
+}
+
+/// A relation, and the cofactors of its value at the moved point.
+#[derive(Drop)]
+pub struct RelationItem<P> {
+    pub a: Items<u32>,
+    pub d: P,
+    pub tail: Items<TailItem<P>>,
+    pub cofactors: Items<P>,
+}
+
+impl<P> Model for RelationItem<P> {
+    ghost use Rattle.std.specs.Prelude.{ℕ, List};
+    ghost use Rattle.rinv_cert.specs.declared.certificate.Tied.{Tied};
+
+    ghost Value = { List ℕ × P × List (List ℕ × P × Tied) × List P };
+
+    ghost view = { λ r. (r.a, r.d, r.tail, r.cofactors) };
+}
+
 /// A group that acts on affine space, without a section.
 #[derive(Drop)]
-pub struct System {
+pub struct System<P> {
     pub field: u32,
     pub group: Items<Name>,
     pub space: Items<Name>,
-    pub ideal: Items<Polynomial>,
+    pub ideal: Items<P>,
     pub unit: Items<u32>,
-    pub product: Items<Polynomial>,
-    pub inverse: Items<Polynomial>,
-    pub action: Items<Polynomial>,
+    pub product: Items<P>,
+    pub inverse: Items<P>,
+    pub action: Items<P>,
 }
 
-impl Model for System {
-    ghost use Rattle.std.specs.Prelude.{[]};
-    ghost use Rattle.rinv_defs.specs.System.{System as Defined};
-
-    ghost Value = { Defined };
-
-    ghost view = { λ s. record {
-      p = s.field;
-      group = s.group;
-      space = s.space;
-      ideal = s.ideal;
-      unit = s.unit;
-      product = s.product;
-      inverse = s.inverse;
-      action = s.action;
-      section = [];
-    } };
-}
-
-/// A certificate of kind `invariance`: fractions, and for each one the cofactors which show that it is invariant.
+/// A certificate. The fields of keys that its kind does not have are empty.
 #[derive(Drop)]
-pub struct Certificate {
-    pub system: System,
-    pub fractions: Items<(Polynomial, Polynomial)>,
-    pub invariance: Items<Items<Polynomial>>,
+pub struct CertificateOf<P> {
+    pub kind: Kind,
+    pub system: System<P>,
+    pub fractions: Items<(P, P)>,
+    pub invariance: Items<Items<P>>,
+    pub laws: Items<Items<Items<P>>>,
+    pub basis: Items<BasisItem<P>>,
+    pub inputs: Items<Items<P>>,
+    pub pairs: Items<PairItem<P>>,
+    pub relations: Items<RelationItem<P>>,
 }
 
-impl Model for Certificate {
-    ghost use Rattle.std.specs.Prelude.{[]};
-    ghost use Rattle.rinv_defs.specs.Certificate.{Certificate as Defined, invariance as invariance_alone};
+/// What stands for a polynomial.
+pub type Plain = Polynomial;
 
-    ghost Value = { Defined };
-
-    ghost view = { λ c. record {
-      kind = invariance_alone;
-      system = c.system;
-      fractions = c.fractions;
-      invariance = c.invariance;
-      laws = [];
-      basis = [];
-      inputs = [];
-      pairs = [];
-      relations = [];
-    } };
-}
+/// A certificate whose polynomials stand where they are used.
+pub type Certificate = CertificateOf<Plain>;

@@ -1,28 +1,37 @@
-//! What is read of a JSON value that has a shape: numbers, names, lists, pairs and terms.
+//! Values that are read from JSON values of one shape, and written as such: numbers, names and lists.
 
 ghost use Rattle.std.specs.Prelude.{◌≡◌, IfOk, Option, option_map};
-ghost use Rattle.serde_json.specs.Data.{Data};
+ghost use Rattle.serde_json.specs.Data.{Data, string};
 ghost use Rattle.serde_json.specs.View.{view};
 ghost use Rattle.serde_json.specs.Find.{as_str};
-ghost use Rattle.rinv_defs.specs.Json.{whole, term, pair_of, list_of, member_count, under};
+ghost use Rattle.rinv_json.specs.Shapes.{whole, list_of};
+ghost use Rattle.rinv_json.specs.Written.{whole_data, list_data};
 
-use crate::certificate::Term;
 use crate::items::{Items, Name};
 use serde_json::Value;
 use std::alloc::{AllocError as NoMemory, Global};
 
-/// A type whose values are read from JSON values of one shape.
+/// A type whose values are read from JSON values of one shape, and written as such.
 pub(crate) trait Shape: Drop + Sized {
     // What is read, where the value has the shape.
     ghost shape: { Data → Option Self };
 
+    // As what it is written.
+    ghost writes: { Self → Data };
+
     /// What is read, where the value has the shape.
     fn from_data(alloc: Global, value: &Value) -> Result<Option<Self>, NoMemory>
         ensures { IfOk result (λ o. o ≡ shape (view value.now)) };
+
+    /// The JSON value as which it is written.
+    fn to_data(&self, alloc: Global) -> Result<Value, NoMemory>
+        ensures { IfOk result (λ v. view v ≡ writes self.now) };
 }
 
 impl Shape for u32 {
     ghost shape = { whole };
+
+    ghost writes = { whole_data };
 
     fn from_data(_alloc: Global, value: &Value) -> Result<Option<u32>, NoMemory> {
         match value.as_u64() {
@@ -30,10 +39,16 @@ impl Shape for u32 {
             None => Ok(None),
         }
     }
+
+    fn to_data(&self, _alloc: Global) -> Result<Value, NoMemory> {
+        Ok(Value::from(*self))
+    }
 }
 
 impl Shape for Name {
     ghost shape = { as_str };
+
+    ghost writes = { string };
 
     fn from_data(alloc: Global, value: &Value) -> Result<Option<Name>, NoMemory> {
         match value.as_str() {
@@ -43,6 +58,11 @@ impl Shape for Name {
             }
             None => Ok(None),
         }
+    }
+
+    fn to_data(&self, alloc: Global) -> Result<Value, NoMemory> {
+        let text = String::from_str(alloc, self.as_str())?;
+        Ok(Value::String(text))
     }
 }
 
@@ -63,8 +83,22 @@ fn elements<S: Shape>(alloc: Global, value: &Value) -> Result<Option<Vec<S>>, No
     Ok(Some(found))
 }
 
+// The array of the elements.
+fn array<S: Shape>(alloc: Global, list: &[S]) -> Result<Value, NoMemory>
+    ensures { IfOk result (λ v. view v ≡ list_data S.writes list.now) }
+{
+    let mut values = Vec::new(alloc);
+    'elements: for k in 0..list.len() {
+        let value = list[k].to_data(alloc)?;
+        values.push(value)?;
+    }
+    Ok(Value::Array(values))
+}
+
 impl<S: Shape> Shape for Items<S> {
     ghost shape = { list_of S.shape };
+
+    ghost writes = { list_data S.writes };
 
     fn from_data(alloc: Global, value: &Value) -> Result<Option<Items<S>>, NoMemory> {
         match elements::<S>(alloc, value)? {
@@ -72,63 +106,9 @@ impl<S: Shape> Shape for Items<S> {
             None => Ok(None),
         }
     }
-}
 
-impl<A: Shape, B: Shape> Shape for (A, B) {
-    ghost shape = { pair_of A.shape B.shape };
-
-    fn from_data(alloc: Global, value: &Value) -> Result<Option<(A, B)>, NoMemory> {
-        let Some(values) = value.as_array() else {
-            return Ok(None);
-        };
-        let values: &[Value] = values;
-        if values.len() != 2 {
-            return Ok(None);
-        }
-        let Some(first) = A::from_data(alloc, &values[0])? else {
-            return Ok(None);
-        };
-        let Some(second) = B::from_data(alloc, &values[1])? else {
-            return Ok(None);
-        };
-        Ok(Some((first, second)))
-    }
-}
-
-impl Shape for Term {
-    ghost shape = { term };
-
-    fn from_data(alloc: Global, value: &Value) -> Result<Option<Term>, NoMemory> {
-        match <(u32, Items<u32>)>::from_data(alloc, value)? {
-            Some((coefficient, exponents)) => Ok(Some(Term {
-                coefficient,
-                exponents,
-            })),
-            None => Ok(None),
-        }
-    }
-}
-
-/// What is read under a key of an object.
-pub(crate) fn member<S: Shape>(
-    alloc: Global,
-    value: &Value,
-    key: &str,
-) -> Result<Option<S>, NoMemory>
-    ensures { IfOk result (λ o. o ≡ under key.now S.shape (view value.now)) }
-{
-    match value.get(key) {
-        Some(found) => S::from_data(alloc, found),
-        None => Ok(None),
-    }
-}
-
-/// How many members an object has.
-pub(crate) fn count_members(value: &Value) -> usize
-    ensures { result ≡ member_count (view value.now) }
-{
-    match value.as_object() {
-        Some(map) => map.len(),
-        None => 0,
+    fn to_data(&self, alloc: Global) -> Result<Value, NoMemory> {
+        let value = array(alloc, self.as_slice())?;
+        Ok(value)
     }
 }

@@ -3,27 +3,24 @@
 --   fits-moved, fits-left, ..       which of the products does not fit
 --   meets-numerator, ..              over numbers modulo a prime Degree comes only where something does not fit
 --   shown-same, position_from-agree    the condition depends on the coefficients of the ideal alone
-use Rattle.std.proofs.Common.{◌≡◌, ℕ, ◌+◌, Bool, true, false, ◌&&◌, List, [], ◌∷◌, ◌++◌, length, refl, sym, ap, ◌∙◌, ◌<◌, get_or, take, suc, arith}
-use Rattle.std.specs.Prelude.{zip, not, Option, Result, Ok, Err, IfOk, All, IsTrue}
-use Rattle.std.specs.List.{position_from, list_all}
+use Rattle.std.proofs.Common.{◌≡◌, ℕ, Bool, true, false, ◌&&◌, List, [], ◌∷◌, ◌++◌, refl, sym, ap, ◌∙◌}
+use Rattle.std.specs.Prelude.{zip, not, All, IsTrue}
+use Rattle.std.specs.List.{AllZip, position_from, list_all}
 use Rattle.std.proofs.lemmas.List.Elements.{All-nil, All-cons}
 use Rattle.rinv_algebra.proofs.Same.{both}
-use Rattle.std.specs.Prelude.{nat_lt, ◌==◌}
-use Rattle.std.proofs.lemmas.Bool.Decides.{nat_tests}
-use Rattle.rinv_check.specs.Forms.{is_stored, are_stored}
+use Rattle.std.specs.Prelude.{nat_lt}
+use Rattle.rinv_form.specs.Forms.{is_stored, are_stored, is_stored_fraction}
 use Rattle.std.proofs.lemmas.List.{length-replicate}
-use Rattle.rinv_sub.proofs.Sums.{take-at}
-use Rattle.rinv_algebra.specs.Ring.{RingOps, RingLaws, IsSame}
+use Rattle.rinv_algebra.specs.Ring.{IsSame}
 use Rattle.rinv_algebra.specs.Residue.{residue_ops}
 use Rattle.rinv_algebra.specs.Polynomial.{poly_ops, product, same, opposite, past}
 use Rattle.rinv_algebra.specs.Value.{substitute}
-use Rattle.rinv_algebra.specs.Ideal.{combination}
-use Rattle.rinv_algebra.specs.Fits.{product_fits, substitution_fits, combination_fits, multiplies_out}
+use Rattle.rinv_algebra.specs.Fits.{product_fits, substitution_fits, multiplies_out}
 use Rattle.rinv_algebra.proofs.PolynomialLaws.{poly_laws}
 use Rattle.rinv_algebra.proofs.ResidueLaws.{residue_laws}
 use Rattle.rinv_algebra.proofs.RingFacts as facts
 use Rattle.rinv_algebra.proofs.Products.{and_false}
-use Rattle.rinv_algebra.proofs.Degrees.{iff-equal, product_fits-same}
+use Rattle.rinv_algebra.proofs.Degrees.{product_fits-same}
 use Rattle.rinv_ring.specs.Fault.{DegreesMeet}
 use Rattle.rinv_ring.specs.declared.fault.RingFault.{RingFault}
 use Rattle.rinv_ring.specs.declared.fault.RingFault.TheVariants.{Degree, NoMemory}
@@ -31,16 +28,12 @@ use Rattle.rinv_defs.specs.System.{System, Poly, group_count}
 use Rattle.rinv_defs.specs.Invariant.{Fraction, change}
 use Rattle.rinv_defs.specs.Conditions.{invariance_is_shown}
 use Rattle.rinv_poly.proofs.Meets.{meet-weaker}
-use Rattle.rinv_sub.specs.Refusal.{SubstitutionMeets, CombinationMeets, never}
-use Rattle.rinv_sub.proofs.Misfits.{residues-misfit, residues-uncombined}
-use Rattle.rinv_check.specs.Setting.{setting, change_fits, AreSame}
-
--- a test of sameness answers one thing for what is the same on both sides
-pub same-both : {E : Type 0} (o : RingOps E) (l : RingLaws o) (x x' y y' : E) → IsSame o x x' → IsSame o y y' → o.same x y ≡ o.same x' y'
-same-both o l x x' y y' a b =
-    iff-equal (o.same x y) (o.same x' y')
-    (λ h. facts.then o l (facts.back o l a) (facts.then o l h b))
-    (λ h. facts.then o l a (facts.then o l h (facts.back o l b)))
+use Rattle.rinv_sub.specs.Refusal.{SubstitutionMeets, never}
+use Rattle.rinv_sub.proofs.Misfits.{residues-misfit}
+use Rattle.rinv_identities.proofs.GraphValues.{multiplies_out-same}
+use Rattle.rinv_identities.proofs.Walks.{position_from-agree}
+use Rattle.rinv_check.specs.Setting.{setting, change_fits}
+use Rattle.rinv_check.proofs.ShownParts.{each-itself}
 
 -- ---- the products of a change
 
@@ -93,57 +86,22 @@ module _ (p l : ℕ) (action ideal : List Poly) (n d : Poly) (us : List Poly) wh
   pub shown-unfit : change_fits p l action n d ≡ false → invariance_is_shown (setting p l action ideal) (n, d) us ≡ false
   shown-unfit a = shown-is ∙ rw a refl
 
-  pub shown-uncombined : combination_fits (residue_ops p) us ideal ≡ false → invariance_is_shown (setting p l action ideal) (n, d) us ≡ false
-  shown-uncombined a = shown-is ∙ rw a (and_false (change_fits p l action n d))
-
-  pub shown-same : (c s : Poly) → change_fits p l action n d ≡ true → combination_fits (residue_ops p) us ideal ≡ true → IsSame (poly_ops (residue_ops p)) c (change (setting p l action []) (n, d)) → IsSame (poly_ops (residue_ops p)) s (combination (residue_ops p) us ideal)
-      → same (residue_ops p) c s ≡ invariance_is_shown (setting p l action ideal) (n, d) us
-  shown-same c s a b e f = same-both (poly_ops (residue_ops p)) (poly_laws (residue_ops p) (residue_laws p)) c (change (setting p l action []) (n, d)) s (combination (residue_ops p) us ideal) e f ∙ sym (shown-is ∙ rw (a, b) refl)
+  pub shown-same : (c : Poly) → change_fits p l action n d ≡ true → IsSame (poly_ops (residue_ops p)) c (change (setting p l action []) (n, d))
+      → multiplies_out (residue_ops p) c us ideal ≡ invariance_is_shown (setting p l action ideal) (n, d) us
+  shown-same c fits is =
+      multiplies_out-same p c (change (setting p l action []) (n, d)) us ideal ideal is (each-itself p ideal)
+      ∙ sym (shown-is ∙ ap (λ (b : Bool). b && multiplies_out (residue_ops p) (change (setting p l action []) (n, d)) us ideal) fits)
 
 -- ---- ideals that are the same, place by place
 
-combination-same : (p : ℕ) (us gs fs : List Poly) → AreSame p gs fs → IsSame (poly_ops (residue_ops p)) (combination (residue_ops p) us gs) (combination (residue_ops p) us fs)
-unfolding combination
-combination-same p [] gs fs s = let laws = poly_laws (residue_ops p) (residue_laws p) in laws.same_refl []
-combination-same p (u ∷ us) [] [] s = let laws = poly_laws (residue_ops p) (residue_laws p) in laws.same_refl []
-combination-same p (u ∷ us) [] (f ∷ fs) s = absurd s
-combination-same p (u ∷ us) (g ∷ gs) [] s = absurd s
-combination-same p (u ∷ us) (g ∷ gs) (f ∷ fs) s =
-    let laws = poly_laws (residue_ops p) (residue_laws p) in
-    laws.add_same (product (residue_ops p) u g) (product (residue_ops p) u f) (combination (residue_ops p) us gs) (combination (residue_ops p) us fs) (laws.mul_same u u g f (laws.same_refl u) s.0) (combination-same p us gs fs s.1)
-
-combination_fits-same : (p : ℕ) (us gs fs : List Poly) → AreSame p gs fs → combination_fits (residue_ops p) us gs ≡ combination_fits (residue_ops p) us fs
-unfolding combination_fits
-combination_fits-same p [] gs fs s = refl
-combination_fits-same p (u ∷ us) [] [] s = refl
-combination_fits-same p (u ∷ us) [] (f ∷ fs) s = absurd s
-combination_fits-same p (u ∷ us) (g ∷ gs) [] s = absurd s
-combination_fits-same p (u ∷ us) (g ∷ gs) (f ∷ fs) s =
-    let laws = poly_laws (residue_ops p) (residue_laws p) in
-    let rest = combination_fits-same p us gs fs s.1 in
-    rw (product_fits-same (residue_ops p) (residue_laws p) u u g f (laws.same_refl u) s.0, rest) refl
-
-multiplies_out-same : (p : ℕ) (c : Poly) (us gs fs : List Poly) → AreSame p gs fs → multiplies_out (residue_ops p) c us gs ≡ multiplies_out (residue_ops p) c us fs
-multiplies_out-same p c us gs fs s =
-    let ops = poly_ops (residue_ops p) in
-    let laws = poly_laws (residue_ops p) (residue_laws p) in
-    let sums : same (residue_ops p) c (combination (residue_ops p) us gs) ≡ same (residue_ops p) c (combination (residue_ops p) us fs) = same-both ops laws c c (combination (residue_ops p) us gs) (combination (residue_ops p) us fs) (laws.same_refl c) (combination-same p us gs fs s) in
-    rw (combination_fits-same p us gs fs s, sums) refl
-
 -- the condition depends on the coefficients of the ideal alone
-pub shown-ideal : (p l : ℕ) (action gs fs : List Poly) → AreSame p gs fs → (x : Fraction × List Poly) → invariance_is_shown (setting p l action gs) x.0 x.1 ≡ invariance_is_shown (setting p l action fs) x.0 x.1
-shown-ideal p l action gs fs s ((n, d), us) = shown-is p l action gs n d us ∙ ap (λ (b : Bool). change_fits p l action n d && b) (multiplies_out-same p (change (setting p l action []) (n, d)) us gs fs s) ∙ sym (shown-is p l action fs n d us)
+pub shown-ideal : (p l : ℕ) (action gs fs : List Poly) → AllZip (IsSame (poly_ops (residue_ops p))) gs fs → (x : Fraction × List Poly) → invariance_is_shown (setting p l action gs) x.0 x.1 ≡ invariance_is_shown (setting p l action fs) x.0 x.1
+shown-ideal p l action gs fs s ((n, d), us) = shown-is p l action gs n d us ∙ ap (λ (b : Bool). change_fits p l action n d && b) (multiplies_out-same p (change (setting p l action []) (n, d)) (change (setting p l action []) (n, d)) us gs fs ((poly_laws (residue_ops p) (residue_laws p)).same_refl (change (setting p l action []) (n, d))) s) ∙ sym (shown-is p l action fs n d us)
 
 -- what is asked of a system is what is asked of these parts of it
 pub shown-setting : (s : System) (x : Fraction × List Poly) → invariance_is_shown (setting s.p (group_count s) s.action s.ideal) x.0 x.1 ≡ invariance_is_shown s x.0 x.1
 unfolding invariance_is_shown change
 shown-setting s ((n, d), us) = rw (length-replicate {A = List ℕ} (group_count s) []) refl
-
--- ---- the first place at which a test passes
-
-pub position_from-agree : {X : Type 0} (f g : X → Bool) → ((x : X) → f x ≡ g x) → (k : ℕ) (xs : List X) → position_from f k xs ≡ position_from g k xs
-position_from-agree f g h k [] = refl
-position_from-agree f g h k (x ∷ xs) = let rest = position_from-agree f g h (k + 1) xs in rw (h x, rest) refl
 
 -- a fact that holds whichever degrees meet
 pub meets-so : {A B : Type 0} → (A → B) → (e : RingFault) → DegreesMeet (λ _ _. A) e → DegreesMeet (λ _ _. B) e
@@ -164,44 +122,26 @@ module _ (p v l : ℕ) (action : List Poly) (n d : Poly) where
       meet-weaker (SubstitutionMeets (residue_ops p) (λ c. nat_lt c p) never v action d) (λ _ _. change_fits p l action n d ≡ false)
       (λ x y h. fits-denominator p l action n d (residues-misfit p v action d w stored x y h).1) e m
 
--- in a combination of so many cofactors
-pub meets-combination : (p v w : ℕ) (us fs : List Poly) → IsTrue (are_stored p w (length fs) us) → (x y : ℕ) → CombinationMeets (residue_ops p) (λ c. nat_lt c p) never v us fs x y → combination_fits (residue_ops p) us fs ≡ false
-meets-combination p v w us fs stored x y h =
-    let many : (length us == length fs) ≡ true = (both (length us == length fs) (list_all (is_stored p w) us) stored).0 in
-    (residues-uncombined p v us fs (grind (arith, nat_tests, many)) x y h).1
+-- ---- lists
 
--- ---- loops
-
--- one polynomial more
-pub AreSame-push : (p : ℕ) (gs fs : List Poly) (g f : Poly) (k : ℕ) → k < length fs → f ≡ get_or fs k f → AreSame p gs (take k fs) → IsSame (poly_ops (residue_ops p)) g f → AreSame p (gs ++ g ∷ []) (take (k + 1) fs)
-AreSame-push p gs fs g f k h at s e = rw (take-at fs k f h at) (pushed gs (take k fs) s)
-  where
-    pushed : (gs hs : List Poly) → AreSame p gs hs → AreSame p (gs ++ g ∷ []) (hs ++ f ∷ [])
-    pushed [] [] s = (e, tt)
-    pushed [] (x ∷ hs) s = absurd s
-    pushed (x ∷ gs) [] s = absurd s
-    pushed (x ∷ gs) (y ∷ hs) s = (s.0, pushed gs hs s.1)
-
-pub AreSame-length : (p : ℕ) (gs fs : List Poly) → AreSame p gs fs → length gs ≡ length fs
-AreSame-length p [] [] s = refl
-AreSame-length p [] (f ∷ fs) s = absurd s
-AreSame-length p (g ∷ gs) [] s = absurd s
-AreSame-length p (g ∷ gs) (f ∷ fs) s = ap suc (AreSame-length p gs fs s.1)
+-- a test that holds of all holds of each
+all-from_test : {X : Type 0} (test : X → Bool) (xs : List X) → IsTrue (list_all test xs) → All (λ x. IsTrue (test x)) xs
+all-from_test test [] h = All-nil (λ x. IsTrue (test x))
+all-from_test test (x ∷ xs) h = let t = both (test x) (list_all test xs) h in All-cons (λ x. IsTrue (test x)) x xs t.0 (all-from_test test xs t.1)
 
 -- lists of cofactors have their form, whatever names its numbers go by
 pub cofactors-all : (p v n q w m : ℕ) (uss vss : List (List Poly)) → q ≡ p → w ≡ v → m ≡ n → vss ≡ uss → IsTrue (list_all (are_stored p v n) uss) → All (λ us. IsTrue (are_stored q w m us)) vss
 cofactors-all p v n q w m uss vss a b c e h = rw (a, b, c, e) (all-from_test (are_stored p v n) uss h)
-  where
-    all-from_test : {X : Type 0} (test : X → Bool) (xs : List X) → IsTrue (list_all test xs) → All (λ x. IsTrue (test x)) xs
-    all-from_test test [] h = All-nil (λ x. IsTrue (test x))
-    all-from_test test (x ∷ xs) h = let t = both (test x) (list_all test xs) h in All-cons (λ x. IsTrue (test x)) x xs t.0 (all-from_test test xs t.1)
 
--- the first failure is the one for the ideal and the parts as they stand in a system
-pub failure-alike : {E : Type 0} (p l q m : ℕ) (action action' gs fs : List Poly) (fractions fractions' : List Fraction) (uss vss : List (List Poly)) (result : Result (Option ℕ) E)
-    → q ≡ p → m ≡ l → action' ≡ action → fractions' ≡ fractions → vss ≡ uss → AreSame p gs fs
-    → IfOk result (λ o. o ≡ position_from (λ x. not (invariance_is_shown (setting q m action' gs) x.0 x.1)) 1 (zip fractions' vss))
-    → IfOk result (λ o. o ≡ position_from (λ x. not (invariance_is_shown (setting p l action fs) x.0 x.1)) 1 (zip fractions uss))
-failure-alike p l q m action action' gs fs fractions fractions' uss vss (Err e) a b c d e' s h = tt
-failure-alike p l q m action action' gs fs fractions fractions' uss vss (Ok o) a b c d e s h =
-    (rw (a, b, c, d, e) at h)
-    ∙ position_from-agree (λ x. not (invariance_is_shown (setting p l action gs) x.0 x.1)) (λ x. not (invariance_is_shown (setting p l action fs) x.0 x.1)) (λ x. ap not (shown-ideal p l action gs fs s x)) 1 (zip fractions uss)
+-- the same of fractions
+pub fractions-all : (p v q w : ℕ) (fs gs : List Fraction) → q ≡ p → w ≡ v → gs ≡ fs → IsTrue (list_all (is_stored_fraction p v) fs) → All (λ f. IsTrue (is_stored_fraction q w f)) gs
+fractions-all p v q w fs gs a b e h = rw (a, b, e) (all-from_test (is_stored_fraction p v) fs h)
+
+-- the first failure is the system's
+pub failure-of_system : (s : System) (q m : ℕ) (action gs : List Poly) (fractions fs : List Fraction) (uss vss : List (List Poly))
+    → q ≡ s.p → m ≡ group_count s → action ≡ s.action → fs ≡ fractions → vss ≡ uss → AllZip (IsSame (poly_ops (residue_ops s.p))) gs s.ideal
+    → position_from (λ x. not (invariance_is_shown (setting q m action gs) x.0 x.1)) 1 (zip fs vss) ≡ position_from (λ x. not (invariance_is_shown s x.0 x.1)) 1 (zip fractions uss)
+failure-of_system s q m action gs fractions fs uss vss a b c d e same =
+    rw (a, b, c, d, e)
+    (position_from-agree (λ x. not (invariance_is_shown (setting s.p (group_count s) s.action gs) x.0 x.1)) (λ x. not (invariance_is_shown s x.0 x.1))
+    (λ x. ap not (shown-ideal s.p (group_count s) s.action gs s.ideal same x ∙ shown-setting s x)) 1 (zip fractions uss))

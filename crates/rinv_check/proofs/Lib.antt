@@ -1,6 +1,11 @@
-pub mod StoredLists
-pub mod StoredPolynomials
-pub mod FirstPart
-pub mod Kept
+pub mod FirstFailures
+pub mod LawFits
+pub mod LawCofactors
+pub mod ShownParts
+pub mod ShownLaws
+pub mod LawWalks
 pub mod Changes
-pub mod FirstFailure
+pub mod StoredFractions
+pub mod PairWalks
+pub mod BasisParts
+pub mod StoredSystems

@@ -1,4 +1,3 @@
-pub mod Forms
-pub mod Format
 pub mod Verdicts
 pub mod Setting
+pub mod LawLists

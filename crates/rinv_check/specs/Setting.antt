@@ -1,8 +1,7 @@
 -- What the invariance of fractions is tested over.
-use Rattle.std.specs.Prelude.{ℕ, List, [], ◌∷◌, Bool, ◌&&◌, replicate}
-use Rattle.rinv_algebra.specs.Ring.{IsSame}
+use Rattle.std.specs.Prelude.{ℕ, List, [], Bool, ◌&&◌, replicate}
 use Rattle.rinv_algebra.specs.Residue.{residue_ops}
-use Rattle.rinv_algebra.specs.Polynomial.{poly_ops, past}
+use Rattle.rinv_algebra.specs.Polynomial.{past}
 use Rattle.rinv_algebra.specs.Value.{substitute}
 use Rattle.rinv_algebra.specs.Fits.{product_fits, substitution_fits}
 use Rattle.rinv_defs.specs.System.{System, Poly}
@@ -17,10 +16,3 @@ change_fits p l action n d =
     let o = residue_ops p in
     substitution_fits o action n && product_fits o (substitute o action n) (past l d)
     && substitution_fits o action d && product_fits o (past l n) (substitute o action d)
-
--- each polynomial of the one list is the same as the one at its place in the other
-abbrev pub AreSame : ℕ → List Poly → List Poly → Type 0
-AreSame p [] [] = Unit {0}
-AreSame p [] (g ∷ gs) = ⊥
-AreSame p (f ∷ fs) [] = ⊥
-AreSame p (f ∷ fs) (g ∷ gs) = IsSame (poly_ops (residue_ops p)) f g × AreSame p fs gs

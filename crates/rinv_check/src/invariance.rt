@@ -1,6 +1,6 @@
 //! The last condition: each fraction is invariant, as its cofactors show.
 
-ghost use Rattle.std.specs.Prelude.{◌≡◌, ◌+◌, ◌<◌, ◌≤◌, ◌^◌, ℕ, List, [], length, zip, not, All, IsTrue, true, false, IfOk, IfErr, OnOk, nat_lt};
+ghost use Rattle.std.specs.Prelude.{◌≡◌, ◌+◌, ◌<◌, ◌≤◌, ◌^◌, ℕ, List, [], length, zip, not, All, IsTrue, None, true, false, IfOk, IfErr, OnOk, nat_lt};
 ghost use Rattle.std.specs.List.{position_from, list_all};
 ghost use Rattle.rinv_algebra.specs.Ring.{IsSame};
 ghost use Rattle.rinv_algebra.specs.Residue.{residue_ops};
@@ -8,15 +8,18 @@ ghost use Rattle.rinv_algebra.specs.Polynomial.{poly_ops};
 ghost use Rattle.rinv_algebra.specs.Normal.{IsNormal};
 ghost use Rattle.rinv_ring.specs.Fault.{DegreesMeet};
 ghost use Rattle.rinv_defs.specs.Invariant.{change};
-ghost use Rattle.rinv_defs.specs.Conditions.{invariance_is_shown};
-ghost use Rattle.rinv_check.specs.Forms.{is_stored, are_stored, is_stored_fraction};
-ghost use Rattle.rinv_check.specs.Setting.{setting, change_fits, AreSame};
+ghost use Rattle.rinv_defs.specs.Format.{format_failure};
+ghost use Rattle.rinv_defs.specs.Conditions.{invariance_is_shown, invariance_failure};
+ghost use Rattle.rinv_cert.specs.Seen.{plain};
+ghost use Rattle.rinv_form.specs.Forms.{is_stored, are_stored, is_stored_fraction};
+ghost use Rattle.rinv_check.specs.Setting.{setting, change_fits};
 
-use crate::format::StoredCertificate;
-use rinv_cert::Items;
+use rinv_cert::{CertificateOf, Items};
+use rinv_form::sizes_in;
+use rinv_identities::{multiplies_out, widened_ideal};
 use rinv_poly::{KPoly, PolyRing};
 use rinv_ring::{Gf, NoMemory, Ring, RingFault};
-use rinv_sub::{combination, substitute_over_field, widened};
+use rinv_sub::substitute_over_field;
 use std::alloc::Global;
 
 // The rings of the space, and of the group and the space, over one field.
@@ -83,37 +86,8 @@ fn is_shown(
         Err(RingFault::Degree { .. }) => return Ok(false),
         Err(RingFault::NoMemory) => return Err(NoMemory),
     };
-    let sum = match combination(&rings.whole, alloc, cofactors, ideal) {
-        Ok(sum) => sum,
-        Err(RingFault::Degree { .. }) => return Ok(false),
-        Err(RingFault::NoMemory) => return Err(NoMemory),
-    };
-    match rings.whole.same(alloc, &change, &sum) {
-        Ok(same) => Ok(same),
-        // Numbers modulo a prime refuse no comparison but for memory.
-        Err(_) => Err(NoMemory),
-    }
-}
-
-// The generators of the group's ideal, in the group's and the space's variables.
-fn widen_all(
-    alloc: Global,
-    from: &PolyRing<Gf>,
-    to: &PolyRing<Gf>,
-    ideal: &[KPoly],
-) -> Result<Vec<KPoly>, NoMemory>
-    requires field { from.now.coeffs ≡ to.now.coeffs }
-    requires more { from.now.vars ≤ to.now.vars }
-    requires ideal { All (λ f. IsTrue (is_stored from.now.coeffs from.now.vars f)) ideal.now }
-    ensures stored { IfOk result (λ v. All (λ f. IsTrue (is_stored to.now.coeffs to.now.vars f)) v.items) }
-    ensures same { IfOk result (λ v. AreSame to.now.coeffs v.items ideal.now) }
-{
-    let mut wide = Vec::new(alloc);
-    'ideal: for f in ideal {
-        let g = widened(from, alloc, f, to)?;
-        wide.push(g)?;
-    }
-    Ok(wide)
+    let shown = multiplies_out(alloc, &rings.whole, &change, cofactors, ideal)?;
+    Ok(shown)
 }
 
 // The number, from 1, of the first fraction that is not shown.
@@ -138,14 +112,8 @@ fn first_not_shown(
         let Ok(number) = u32::try_from(k + 1) else {
             return Err(NoMemory);
         };
-        if !is_shown(
-            alloc,
-            rings,
-            action,
-            ideal,
-            &fractions[k],
-            cofactors[k].as_slice(),
-        )? {
+        let list = &cofactors[k];
+        if !is_shown(alloc, rings, action, ideal, &fractions[k], list.as_slice())? {
             return Ok(Some(number));
         }
     }
@@ -153,32 +121,29 @@ fn first_not_shown(
 }
 
 /// The number, from 1, of the first fraction that the cofactors do not show to be invariant.
-pub(crate) fn first_failure(
+pub(crate) fn invariance_failure(
     alloc: Global,
-    stored: &StoredCertificate,
+    stored: &CertificateOf<KPoly>,
 ) -> Result<Option<u32>, NoMemory>
-    requires few { stored.now.group + stored.now.space ≤ 16 }
-    requires ideal { IsTrue (list_all (is_stored stored.now.field stored.now.group) stored.now.ideal) }
-    requires action { IsTrue (are_stored stored.now.field (stored.now.group + stored.now.space) stored.now.space stored.now.action) }
-    requires fractions { IsTrue (list_all (is_stored_fraction stored.now.field stored.now.space) stored.now.fractions) }
-    requires as_many { length stored.now.cofactors ≡ length stored.now.fractions }
-    requires cofactors { IsTrue (list_all (are_stored stored.now.field (stored.now.group + stored.now.space) (length stored.now.ideal)) stored.now.cofactors) }
-    ensures { IfOk result (λ o. o ≡ position_from (λ x. not (invariance_is_shown (setting stored.now.field stored.now.group stored.now.action stored.now.ideal) x.0 x.1)) 1 (zip stored.now.fractions stored.now.cofactors)) }
+    requires { format_failure (plain stored.now) ≡ None }
+    ensures { IfOk result (λ o. o ≡ invariance_failure (plain stored.now)) }
 {
-    let whole = stored.group + stored.space;
+    let sizes = sizes_in(stored);
     let rings = Rings {
-        group: stored.group,
-        space: PolyRing::new(stored.field, stored.space),
-        whole: PolyRing::new(stored.field, whole),
+        group: sizes.group,
+        space: PolyRing::new(sizes.field, sizes.space),
+        whole: PolyRing::new(sizes.field, sizes.whole),
     };
-    let group_ring = PolyRing::new(stored.field, stored.group);
-    let ideal = widen_all(alloc, &group_ring, &rings.whole, stored.ideal.as_slice())?;
-    first_not_shown(
+    let group = PolyRing::new(sizes.field, sizes.group);
+    let written = &stored.system;
+    let ideal = widened_ideal(alloc, &group, written.ideal.as_slice(), &rings.whole)?;
+    let failure = first_not_shown(
         alloc,
         &rings,
-        stored.action.as_slice(),
+        written.action.as_slice(),
         &ideal,
         stored.fractions.as_slice(),
-        stored.cofactors.as_slice(),
-    )
+        stored.invariance.as_slice(),
+    )?;
+    Ok(failure)
 }

@@ -2,8 +2,6 @@
 #![tactic(auto)]
 
 #[cfg(test)]
-mod checks;
+mod forms;
 #[cfg(test)]
-mod readings;
-#[cfg(test)]
-mod signs;
+mod worked;

@@ -45,19 +45,19 @@ not_all es all (k, x, lt, at, n) = absurd (n (subst IsSomeExpression at (all k x
 
 module _ (names : List (List ℕ)) where
   -- the fault of an entry, or that of the later ones
-  abbrev fault_or : {e : List ℕ} → (IsAccepted names e) ⊎ ((a : TextFault) × IsRefused names e a) → Option Code → Option Code
-  fault_or (inl r) later = later
-  fault_or (inr r) later = Some (Text r.0.code)
+  abbrev fault_or : (e : List ℕ) → (IsAccepted names e) ⊎ ((a : TextFault) × IsRefused names e a) → Option Code → Option Code
+  fault_or e (inl r) later = later
+  fault_or e (inr r) later = Some (Text r.0.code)
 
   pub first_fault : List (List ℕ) → Option Code
   first_fault [] = None
-  first_fault (e ∷ es) = fault_or ((has_one_reading names e).read_or_refused) (first_fault es)
+  first_fault (e ∷ es) = fault_or e ((has_one_reading names e).read_or_refused) (first_fault es)
 
-  accepted-fault : (e : List ℕ) (later : Option Code) → IsAccepted names e → (r : (IsAccepted names e) ⊎ ((a : TextFault) × IsRefused names e a)) → fault_or r later ≡ later
+  accepted-fault : (e : List ℕ) (later : Option Code) → IsAccepted names e → (r : (IsAccepted names e) ⊎ ((a : TextFault) × IsRefused names e a)) → fault_or e r later ≡ later
   accepted-fault e later h (inl r) = refl
   accepted-fault e later (t, d, f) (inr (a, r)) = absurd ((has_one_reading names e).not_both t a d f r)
 
-  refused-fault : (e : List ℕ) (later : Option Code) (a : TextFault) → IsRefused names e a → (r : (IsAccepted names e) ⊎ ((a : TextFault) × IsRefused names e a)) → fault_or r later ≡ Some (Text a.code)
+  refused-fault : (e : List ℕ) (later : Option Code) (a : TextFault) → IsRefused names e a → (r : (IsAccepted names e) ⊎ ((a : TextFault) × IsRefused names e a)) → fault_or e r later ≡ Some (Text a.code)
   refused-fault e later a h (inl (t, d, f)) = absurd ((has_one_reading names e).not_both t a d f h)
   refused-fault e later a h (inr (b, r)) = ap (λ (c : TextFault). Some (Text c.code)) ((has_one_reading names e).one_fault b a r h)
 

@@ -7,7 +7,7 @@ use Rattle.rinv_algebra.specs.Ring.{IsSame}
 use Rattle.rinv_algebra.specs.Polynomial.{poly_ops}
 use Rattle.rinv_poly.proofs.Gather.{same-then, same-back}
 use Rattle.rinv_poly.proofs.Residues.{equal-normal}
-use Rattle.rinv_text.specs.Reading.{value}
+use Rattle.rinv_text.specs.Reading.{variable_named, value}
 use Rattle.rinv_text.proofs.OneReading.{has_one_reading}
 use Rattle.rinv_system.specs.declared.keyword.Keyword.{Keyword}
 use Rattle.rinv_system.specs.Entries.{entries_of}
@@ -19,9 +19,9 @@ use Rattle.rinv_system.specs.Texts.{IsLineTaken}
 one-entry : (p : ℕ) (names : List (List ℕ)) (e : List ℕ) (f g : Poly) → IsTrue (is_listed p) → IsEntry p names e f → IsEntry p names e g → f ≡ g
 one-entry p names e f g listed a b =
     equal-normal p (length names) listed f g a.normal b.normal
-    (same-then (residue_ops p) (residue_laws p) f (value p names a.denotes.tree) g a.denotes.same
-    (same-back (residue_ops p) (residue_laws p) g (value p names a.denotes.tree)
-    (subst (λ t. IsSame (poly_ops (residue_ops p)) g (value p names t)) ((has_one_reading names e).one_tree b.denotes.tree a.denotes.tree b.denotes.derived a.denotes.derived) b.denotes.same)))
+    (same-then (residue_ops p) (residue_laws p) f (value p (variable_named p names) a.denotes.tree).0 g a.denotes.same
+    (same-back (residue_ops p) (residue_laws p) g (value p (variable_named p names) a.denotes.tree).0
+    (subst (λ t. IsSame (poly_ops (residue_ops p)) g (value p (variable_named p names) t).0) ((has_one_reading names e).one_tree b.denotes.tree a.denotes.tree b.denotes.derived a.denotes.derived) b.denotes.same)))
 
 pub one-list : (p : ℕ) (names es : List (List ℕ)) (fs gs : List Poly) → IsTrue (is_listed p) → AreEntries p names es fs → AreEntries p names es gs → fs ≡ gs
 one-list p names _ _ _ listed AreEntries.none AreEntries.none = refl

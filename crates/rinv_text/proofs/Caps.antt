@@ -1,8 +1,10 @@
 -- Products and powers of numbers that are cut off at a limit.
+--   capped-product, capped-power    what is cut off before is cut off after
+--   great-power, great-multiple     where an exponent is too great
 use Rattle.std.proofs.Common.{◌≡◌, ℕ, zero, suc, ◌+◌, ◌*◌, ◌^◌, ◌<◌, ◌≤◌, min, refl, sym, ap, ◌∙◌, arith, inl, inr, ltb, add-one}
 use Rattle.std.proofs.lemmas.Bool.{cases_Bool}
 use Rattle.std.proofs.lemmas.Bool.Decides.{nat_tests}
-use Rattle.std.proofs.Math.Nat.{mul-le-mul_left, mul-zero, mul_comm, pow-suc, pow-zero}
+use Rattle.std.proofs.Math.Nat.{mul-le-mul_left, mul-zero, mul_comm, pow-suc, pow-zero, pow-le-pow_left, pow-le-pow_right}
 
 module _ (m : ℕ) where
   over : (a b : ℕ) → m < a → min (m * suc b) m ≡ min (a * suc b) m
@@ -44,3 +46,35 @@ module _ (m : ℕ) where
     where
       twice : min (min a m) m ≡ min a m
       twice = omega arith
+
+-- ---- great exponents, of which 65 stands for all
+
+zero-power : (k : ℕ) → 0 ^ suc k ≡ 0
+zero-power k = pow-suc 0 k ∙ mul-zero (0 ^ k)
+
+pub one-power : (k : ℕ) → 1 ^ k ≡ 1
+one-power zero = refl
+one-power (suc k) = let ih : 1 ^ k ≡ 1 = one-power k in pow-suc 1 k ∙ omega (arith, ih)
+
+-- a power is then 0, 1, or above the limit
+pub great-power : (a k : ℕ) → 64 < k → min (a ^ 65) 1000001 ≡ min (a ^ k) 1000001
+great-power a zero h = absurd (omega arith)
+great-power zero (suc k) h = ap (λ (x : ℕ). min x 1000001) (sym (zero-power k))
+great-power (suc zero) (suc k) h = ap (λ (x : ℕ). min x 1000001) (sym (one-power (suc k)))
+great-power (suc (suc a)) (suc k) h =
+    let base : 2 ≤ suc (suc a) = omega arith in
+    let some : 0 < suc (suc a) = omega arith in
+    let least : 2 ^ 65 ≤ suc (suc a) ^ 65 = pow-le-pow_left base 65 in
+    let more : suc (suc a) ^ 65 ≤ suc (suc a) ^ suc k = pow-le-pow_right some (omega (arith, h)) in
+    both (suc (suc a) ^ 65) (suc (suc a) ^ suc k) (omega (arith, least)) (omega (arith, least, more))
+  where
+    both : (x y : ℕ) → 1000001 ≤ x → 1000001 ≤ y → min x 1000001 ≡ min y 1000001
+    both x y e f = omega (arith, e, f)
+
+-- so is a multiple
+pub great-multiple : (d k : ℕ) → 64 < k → min (65 * d) 65 ≡ min (k * d) 65
+great-multiple zero k h = let e : k * 0 ≡ 0 = mul-zero k in omega (arith, e)
+great-multiple (suc d) k h =
+    let left : 65 * 1 ≤ 65 * suc d = mul-le-mul_left {m = 1} {n = suc d} 65 (omega arith) in
+    let right : k * 1 ≤ k * suc d = mul-le-mul_left {m = 1} {n = suc d} k (omega arith) in
+    omega (arith, left, right, h)

@@ -33,6 +33,8 @@ pub mod RingProducts
 pub mod Constants
 pub mod Low
 pub mod Standing
+pub mod Crossings
+pub mod Definitions
 pub mod Numbers
 pub mod Powers
 pub mod Piles
@@ -46,4 +48,9 @@ pub mod PrintedPhrases
 pub mod PrintedTerms
 pub mod PrintedOrder
 pub mod PrintedSums
+pub mod Agreeing
+pub mod PlainTokens
+pub mod PrintedFractions
+pub mod FractionAnswers
+pub mod KeptFractions
 pub mod SystemParts

@@ -17,50 +17,50 @@ abbrev pub ends : List ℕ → Bool
 ends [] = true
 ends (b ∷ bs) = not (is_name_byte b || b == 39)
 
--- the tokens of a text, wherever it stands
-abbrev pub Reads : List ℕ → List Token → Type 0
-Reads text ks = (place : ℕ) → kinds (tokens_after 0 place text) ≡ ks
+-- the tokens of a text, in which `/` divides or not, wherever it stands
+abbrev pub Reads : Bool → List ℕ → List Token → Type 0
+Reads division text ks = (place : ℕ) → kinds (tokens_after division 0 place text) ≡ ks
 
 -- in front of a text that does not go on its last token, s gives these tokens
-abbrev pub Front : List ℕ → List Token → Type 0
-Front s ks = (ts : List ℕ) (us : List Token) → ends ts ≡ true → Reads ts us → Reads (s ++ ts) (ks ++ us)
+abbrev pub Front : Bool → List ℕ → List Token → Type 0
+Front division s ks = (ts : List ℕ) (us : List Token) → ends ts ≡ true → Reads division ts us → Reads division (s ++ ts) (ks ++ us)
 
 -- the same in front of any text
-abbrev pub Closed : List ℕ → List Token → Type 0
-Closed s ks = (ts : List ℕ) (us : List Token) → Reads ts us → Reads (s ++ ts) (ks ++ us)
+abbrev pub Closed : Bool → List ℕ → List Token → Type 0
+Closed division s ks = (ts : List ℕ) (us : List Token) → Reads division ts us → Reads division (s ++ ts) (ks ++ us)
 
 -- ---- one token
 
 -- the further bytes of a token are skipped
-skipped : (bs ts : List ℕ) (place : ℕ) → tokens_after (length bs) place (bs ++ ts) ≡ tokens_after 0 (place + length bs) ts
+skipped : (division : Bool) (bs ts : List ℕ) (place : ℕ) → tokens_after division (length bs) place (bs ++ ts) ≡ tokens_after division 0 (place + length bs) ts
 unfolding tokens_after
-skipped [] ts place = let e : place + 0 ≡ place = omega arith in rw e refl
-skipped (b ∷ bs) ts place = let e : (place + 1) + length bs ≡ place + suc (length bs) = omega arith in skipped bs ts (place + 1) ∙ ap (λ k. tokens_after 0 k ts) e
+skipped division [] ts place = let e : place + 0 ≡ place = omega arith in rw e refl
+skipped division (b ∷ bs) ts place = let e : (place + 1) + length bs ≡ place + suc (length bs) = omega arith in skipped division bs ts (place + 1) ∙ ap (λ k. tokens_after division 0 k ts) e
 
 front-of : (bs ts : List ℕ) → take (length bs) (bs ++ ts) ≡ bs
 front-of [] ts = refl
 front-of (b ∷ bs) ts = ap (λ l. b ∷ l) (front-of bs ts)
 
 -- a token of the bytes b and bs
-token-read : (b : ℕ) (bs ts : List ℕ) (us : List Token) → is_blank b ≡ false → further_length b (bs ++ ts) ≡ length bs → Reads ts us → Reads (b ∷ bs ++ ts) (token_of b bs ∷ us)
+token-read : (division : Bool) (b : ℕ) (bs ts : List ℕ) (us : List Token) → is_blank b ≡ false → further_length b (bs ++ ts) ≡ length bs → Reads division ts us → Reads division (b ∷ bs ++ ts) (token_of division b bs ∷ us)
 unfolding tokens_after
-token-read b bs ts us dark long rest place = rw dark (
-    ap (λ n. token_of b (take n (bs ++ ts)) ∷ kinds (tokens_after n (place + 1) (bs ++ ts))) long
-    ∙ ap (λ l. token_of b l ∷ kinds (tokens_after (length bs) (place + 1) (bs ++ ts))) (front-of bs ts)
-    ∙ ap (λ l. token_of b bs ∷ kinds l) (skipped bs ts (place + 1))
-    ∙ ap (λ l. token_of b bs ∷ l) (rest (place + 1 + length bs)))
+token-read division b bs ts us dark long rest place = rw dark (
+    ap (λ n. token_of division b (take n (bs ++ ts)) ∷ kinds (tokens_after division n (place + 1) (bs ++ ts))) long
+    ∙ ap (λ l. token_of division b l ∷ kinds (tokens_after division (length bs) (place + 1) (bs ++ ts))) (front-of bs ts)
+    ∙ ap (λ l. token_of division b bs ∷ kinds l) (skipped division bs ts (place + 1))
+    ∙ ap (λ l. token_of division b bs ∷ l) (rest (place + 1 + length bs)))
 
 -- a blank is no token
-pub blank-read : (b : ℕ) → is_blank b ≡ true → Closed (b ∷ []) []
+pub blank-read : (division : Bool) (b : ℕ) → is_blank b ≡ true → Closed division (b ∷ []) []
 unfolding tokens_after
-blank-read b blank ts us rest place = rw blank (rest (place + 1))
+blank-read division b blank ts us rest place = rw blank (rest (place + 1))
 
 -- a sign is a token of its own
-pub sign-read : (b : ℕ) → is_blank b ≡ false → is_digit b ≡ false → is_letter b ≡ false → Closed (b ∷ []) (sign b ∷ [])
-sign-read b dark no_digit no_letter ts us rest =
+pub sign-read : (division : Bool) (b : ℕ) → is_blank b ≡ false → is_digit b ≡ false → is_letter b ≡ false → Closed division (b ∷ []) (sign division b ∷ [])
+sign-read division b dark no_digit no_letter ts us rest =
     let short : further_length b ts ≡ 0 = rw (no_digit, no_letter) refl in
-    let one : token_of b [] ≡ sign b = rw (no_digit, no_letter) refl in
-    subst (λ k. Reads (b ∷ ts) (k ∷ us)) one (token-read b [] ts us dark short rest)
+    let one : token_of division b [] ≡ sign division b = rw (no_digit, no_letter) refl in
+    subst (λ k. Reads division (b ∷ ts) (k ∷ us)) one (token-read division b [] ts us dark short rest)
 
 -- ---- numbers and names
 
@@ -95,14 +95,14 @@ pub record IsNumberText (s : List ℕ) (n : ℕ) : Type 0 where
   pub value : number_of s ≡ n
 
 -- digits are a number
-pub number-front : (s : List ℕ) (n : ℕ) → IsNumberText s n → Front s (numeral n ∷ [])
-number-front s n h ts us ended rest =
+pub number-front : (division : Bool) (s : List ℕ) (n : ℕ) → IsNumberText s n → Front division s (numeral n ∷ [])
+number-front division s n h ts us ended rest =
     let all : list_all is_digit (h.first ∷ h.others) ≡ true = ap (list_all is_digit) (sym h.is) ∙ h.all in
     let parts = parts-of (is_digit h.first) (list_all is_digit h.others) all in
     let long : further_length h.first (h.others ++ ts) ≡ length h.others = rw parts.0 (all-pass is_digit h.others ts parts.1 (no-digit ts ended)) in
     let dark : is_blank h.first ≡ false = dark-of h.first parts.0 in
-    let one : token_of h.first h.others ≡ numeral n = rw parts.0 (ap numeral (ap number_of (sym h.is) ∙ h.value)) in
-    subst (λ l. Reads (l ++ ts) (numeral n ∷ us)) (sym h.is) (subst (λ k. Reads (h.first ∷ h.others ++ ts) (k ∷ us)) one (token-read h.first h.others ts us dark long rest))
+    let one : token_of division h.first h.others ≡ numeral n = rw parts.0 (ap numeral (ap number_of (sym h.is) ∙ h.value)) in
+    subst (λ l. Reads division (l ++ ts) (numeral n ∷ us)) (sym h.is) (subst (λ k. Reads division (h.first ∷ h.others ++ ts) (k ∷ us)) one (token-read division h.first h.others ts us dark long rest))
   where
     dark-of : (b : ℕ) → is_digit b ≡ true → is_blank b ≡ false
     dark-of b e = grind (arith, nat_tests)
@@ -158,15 +158,15 @@ name-whole (b ∷ bs) ts e ended = elim (cases_Bool (is_name_byte b)) [
     last false bs prime off e = let nothing : name_length (b ∷ bs) ≡ 0 = rw (off, prime) refl in absurd (omega arith)
 
 -- a name is a word
-pub word-front : (w : List ℕ) → is_word w ≡ true → Front w (word w ∷ [])
-word-front [] e ts us ended rest = cc
-word-front (b ∷ bs) e ts us ended rest =
+pub word-front : (division : Bool) (w : List ℕ) → is_word w ≡ true → Front division w (word w ∷ [])
+word-front division [] e ts us ended rest = cc
+word-front division (b ∷ bs) e ts us ended rest =
     let parts = parts-of (is_letter b) (name_length bs == length bs) e in
     let no_digit : is_digit b ≡ false = off b parts.0 in
     let dark : is_blank b ≡ false = seen b parts.0 in
     let long : further_length b (bs ++ ts) ≡ length bs = rw (no_digit, parts.0) (name-whole bs ts (eqb-true (name_length bs) (length bs) parts.1) ended) in
-    let one : token_of b bs ≡ word (b ∷ bs) = rw (no_digit, parts.0) refl in
-    subst (λ k. Reads (b ∷ bs ++ ts) (k ∷ us)) one (token-read b bs ts us dark long rest)
+    let one : token_of division b bs ≡ word (b ∷ bs) = rw (no_digit, parts.0) refl in
+    subst (λ k. Reads division (b ∷ bs ++ ts) (k ∷ us)) one (token-read division b bs ts us dark long rest)
   where
     off : (b : ℕ) → is_letter b ≡ true → is_digit b ≡ false
     off b e = grind (arith, nat_tests)
@@ -176,23 +176,23 @@ word-front (b ∷ bs) e ts us ended rest =
 
 -- ---- pieces behind one another
 
--- a sign between two pieces
-pub between : (s t : List ℕ) (ks ls : List Token) (b : ℕ) → is_blank b ≡ false → is_digit b ≡ false → is_letter b ≡ false → ends (b ∷ []) ≡ true → Front s ks → Front t ls → Front (s ++ b ∷ t) (ks ++ sign b ∷ ls)
-between s t ks ls b dark no_digit no_letter ended front back ts us e rest =
-    subst (λ l. Reads l ((ks ++ sign b ∷ ls) ++ us)) (sym (append_assoc s (b ∷ t) ts))
-    (subst (λ k. Reads (s ++ (b ∷ (t ++ ts))) k) (sym (append_assoc ks (sign b ∷ ls) us))
-    (front (b ∷ t ++ ts) (sign b ∷ ls ++ us) ended (sign-read b dark no_digit no_letter (t ++ ts) (ls ++ us) (back ts us e rest))))
+-- a sign division between two pieces
+pub between : (division : Bool) (s t : List ℕ) (ks ls : List Token) (b : ℕ) → is_blank b ≡ false → is_digit b ≡ false → is_letter b ≡ false → ends (b ∷ []) ≡ true → Front division s ks → Front division t ls → Front division (s ++ b ∷ t) (ks ++ sign division b ∷ ls)
+between division s t ks ls b dark no_digit no_letter ended front back ts us e rest =
+    subst (λ l. Reads division l ((ks ++ sign division b ∷ ls) ++ us)) (sym (append_assoc s (b ∷ t) ts))
+    (subst (λ k. Reads division (s ++ (b ∷ (t ++ ts))) k) (sym (append_assoc ks (sign division b ∷ ls) us))
+    (front (b ∷ t ++ ts) (sign division b ∷ ls ++ us) ended (sign-read division b dark no_digit no_letter (t ++ ts) (ls ++ us) (back ts us e rest))))
 
--- a sign between blanks
-pub spaced : (s t : List ℕ) (ks ls : List Token) (b : ℕ) → is_blank b ≡ false → is_digit b ≡ false → is_letter b ≡ false → Front s ks → Front t ls → Front (s ++ 32 ∷ b ∷ 32 ∷ t) (ks ++ sign b ∷ ls)
-spaced s t ks ls b dark no_digit no_letter front back ts us e rest =
-    subst (λ l. Reads l ((ks ++ sign b ∷ ls) ++ us)) (sym (append_assoc s (32 ∷ b ∷ 32 ∷ t) ts))
-    (subst (λ k. Reads (s ++ (32 ∷ b ∷ 32 ∷ (t ++ ts))) k) (sym (append_assoc ks (sign b ∷ ls) us))
-    (front (32 ∷ b ∷ 32 ∷ t ++ ts) (sign b ∷ ls ++ us) refl
-    (blank-read 32 refl (b ∷ 32 ∷ t ++ ts) (sign b ∷ ls ++ us)
-    (sign-read b dark no_digit no_letter (32 ∷ t ++ ts) (ls ++ us) (blank-read 32 refl (t ++ ts) (ls ++ us) (back ts us e rest))))))
+-- a sign division between blanks
+pub spaced : (division : Bool) (s t : List ℕ) (ks ls : List Token) (b : ℕ) → is_blank b ≡ false → is_digit b ≡ false → is_letter b ≡ false → Front division s ks → Front division t ls → Front division (s ++ 32 ∷ b ∷ 32 ∷ t) (ks ++ sign division b ∷ ls)
+spaced division s t ks ls b dark no_digit no_letter front back ts us e rest =
+    subst (λ l. Reads division l ((ks ++ sign division b ∷ ls) ++ us)) (sym (append_assoc s (32 ∷ b ∷ 32 ∷ t) ts))
+    (subst (λ k. Reads division (s ++ (32 ∷ b ∷ 32 ∷ (t ++ ts))) k) (sym (append_assoc ks (sign division b ∷ ls) us))
+    (front (32 ∷ b ∷ 32 ∷ t ++ ts) (sign division b ∷ ls ++ us) refl
+    (blank-read division 32 refl (b ∷ 32 ∷ t ++ ts) (sign division b ∷ ls ++ us)
+    (sign-read division b dark no_digit no_letter (32 ∷ t ++ ts) (ls ++ us) (blank-read division 32 refl (t ++ ts) (ls ++ us) (back ts us e rest))))))
 
 -- a whole text
-pub front-whole : (s : List ℕ) (ks : List Token) → Front s ks → kinds (tokens_after 0 0 s) ≡ ks
+pub front-whole : (division : Bool) (s : List ℕ) (ks : List Token) → Front division s ks → kinds (tokens_after division 0 0 s) ≡ ks
 unfolding tokens_after
-front-whole s ks front = ap (λ l. kinds (tokens_after 0 0 l)) (sym (append-nil s)) ∙ front [] [] refl (λ place. refl) 0 ∙ append-nil ks
+front-whole division s ks front = ap (λ l. kinds (tokens_after division 0 0 l)) (sym (append-nil s)) ∙ front [] [] refl (λ place. refl) 0 ∙ append-nil ks

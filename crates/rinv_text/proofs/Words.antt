@@ -1,8 +1,8 @@
 -- The names in an expression are words among its tokens.
 use Rattle.std.proofs.Common.{◌≡◌, ℕ, suc, ◌+◌, List, [], ◌∷◌, ◌++◌, get_or, cond, not, true, false, Bool, refl, sym, bytes_eq, Decides, arith}
 use Rattle.std.proofs.lemmas.Slice.Eq.{bytes_eq-Decides}
-use Rattle.rinv_text.specs.Tokens.{Token, numeral, word, plus, minus, times, caret, opening, closing, foreign}
-use Rattle.rinv_text.specs.Grammar.{Tree, number, name, negative, sum, difference, product, power, Level, Derives, a_number, a_name, in_parentheses, an_atom, a_power, a_factor, a_product, a_term, with_plus, with_minus, a_sum, a_difference}
+use Rattle.rinv_text.specs.Tokens.{Token, numeral, word, plus, minus, times, slash, caret, opening, closing, foreign}
+use Rattle.rinv_text.specs.Grammar.{Tree, number, name, negative, sum, difference, product, quotient, power, Level, Derives, a_number, a_name, in_parentheses, an_atom, a_power, a_factor, a_product, a_quotient, a_term, with_plus, with_minus, a_sum, a_difference}
 use Rattle.rinv_text.specs.Reading.{place_of}
 
 -- each word has the property
@@ -19,6 +19,7 @@ EachName P (negative t) = EachName P t
 EachName P (sum t u) = EachName P t × EachName P u
 EachName P (difference t u) = EachName P t × EachName P u
 EachName P (product t u) = EachName P t × EachName P u
+EachName P (quotient t u) = EachName P t × EachName P u
 EachName P (power t k) = EachName P t
 
 module _ (P : List ℕ → Type 0) where
@@ -29,6 +30,7 @@ module _ (P : List ℕ → Type 0) where
   words-split (plus ∷ ts) us h = words-split ts us h
   words-split (minus ∷ ts) us h = words-split ts us h
   words-split (times ∷ ts) us h = words-split ts us h
+  words-split (slash ∷ ts) us h = words-split ts us h
   words-split (caret ∷ ts) us h = words-split ts us h
   words-split (opening ∷ ts) us h = words-split ts us h
   words-split (closing ∷ ts) us h = words-split ts us h
@@ -42,6 +44,7 @@ module _ (P : List ℕ → Type 0) where
   derived-names (a_power {ts} d k) h = derived-names d (words-split ts (caret ∷ numeral k ∷ []) h).0
   derived-names (a_factor d) h = derived-names d h
   derived-names (a_product {ts} {us} d e) h = let (a, b) = words-split ts (times ∷ us) h in (derived-names d a, derived-names e b)
+  derived-names (a_quotient {ts} {us} d e) h = let (a, b) = words-split ts (slash ∷ us) h in (derived-names d a, derived-names e b)
   derived-names (a_term d) h = derived-names d h
   derived-names (with_plus d) h = derived-names d h
   derived-names (with_minus d) h = derived-names d h
@@ -56,10 +59,21 @@ words-weaker P Q f (numeral n ∷ ts) h = words-weaker P Q f ts h
 words-weaker P Q f (plus ∷ ts) h = words-weaker P Q f ts h
 words-weaker P Q f (minus ∷ ts) h = words-weaker P Q f ts h
 words-weaker P Q f (times ∷ ts) h = words-weaker P Q f ts h
+words-weaker P Q f (slash ∷ ts) h = words-weaker P Q f ts h
 words-weaker P Q f (caret ∷ ts) h = words-weaker P Q f ts h
 words-weaker P Q f (opening ∷ ts) h = words-weaker P Q f ts h
 words-weaker P Q f (closing ∷ ts) h = words-weaker P Q f ts h
 words-weaker P Q f (foreign ∷ ts) h = words-weaker P Q f ts h
+
+pub names-weaker : (P Q : List ℕ → Type 0) → ((w : List ℕ) → P w → Q w) → (t : Tree) → EachName P t → EachName Q t
+names-weaker P Q f (number n) h = tt
+names-weaker P Q f (name w) h = f w h
+names-weaker P Q f (negative t) h = names-weaker P Q f t h
+names-weaker P Q f (sum t u) (h, k) = (names-weaker P Q f t h, names-weaker P Q f u k)
+names-weaker P Q f (difference t u) (h, k) = (names-weaker P Q f t h, names-weaker P Q f u k)
+names-weaker P Q f (product t u) (h, k) = (names-weaker P Q f t h, names-weaker P Q f u k)
+names-weaker P Q f (quotient t u) (h, k) = (names-weaker P Q f t h, names-weaker P Q f u k)
+names-weaker P Q f (power t k) h = names-weaker P Q f t h
 
 -- the words among the tokens
 abbrev pub words : List Token → List (List ℕ)
@@ -92,6 +106,7 @@ words-found (numeral n ∷ ts) = words-found ts
 words-found (plus ∷ ts) = words-found ts
 words-found (minus ∷ ts) = words-found ts
 words-found (times ∷ ts) = words-found ts
+words-found (slash ∷ ts) = words-found ts
 words-found (caret ∷ ts) = words-found ts
 words-found (opening ∷ ts) = words-found ts
 words-found (closing ∷ ts) = words-found ts

@@ -1,20 +1,18 @@
 -- The refusals that tokens alone show, as the reader sees tokens.
-use Rattle.std.specs.Prelude.{◌≡◌, ℕ, map, length, Ok, ◌+◌, ◌-◌, List, [], ◌∷◌, Bool, false, ◌||◌, nat_le, if◌then◌else◌, Option, Some, None}
+use Rattle.std.specs.Prelude.{◌≡◌, map, length, Ok, ℕ, ◌+◌, ◌-◌, List, [], ◌∷◌, Bool, false, ◌||◌, nat_le, if◌then◌else◌, Option, Some, None}
 use Rattle.rinv_text.specs.declared.token.Kind.{Kind}
 use Rattle.rinv_text.specs.declared.token.Kind.TheVariants.{Numeral, Word, Opening, Closing}
 use Rattle.rinv_text.specs.declared.token.Placed.{Placed}
-use Rattle.rinv_text.specs.declared.step.Step.{Step}
 use Rattle.rinv_text.specs.declared.size.Size.{Size}
 use Rattle.rinv_text.specs.declared.fault.TextFault.{TextFault}
 use Rattle.rinv_text.specs.declared.fault.TextCode.{TextCode}
 use Rattle.rinv_text.specs.declared.fault.TextCode.TheVariants.{Name, Limit, FormalDegree, FormalTerms}
-use Rattle.rinv_text.specs.Stops.{max_nesting}
-use Rattle.rinv_text.specs.Tokens.{tokens as tokens_of}
-use Rattle.rinv_text.specs.Reading.{place_of}
+use Rattle.rinv_text.specs.declared.step.Step.{Step}
+use Rattle.rinv_text.specs.Tokens.{Placed as Token}
+use Rattle.rinv_text.specs.Reading.{Definition, place_of, known_names}
 use Rattle.rinv_text.specs.Images.{literal_of, seen}
 use Rattle.rinv_text.specs.Automaton.{initial, parsed}
-use Rattle.rinv_text.specs.Evaluation.{outcome}
-use Rattle.rinv_text.specs.Sizes.{sizes}
+use Rattle.rinv_text.specs.Stops.{max_nesting}
 
 -- the place behind all names
 abbrev pub is_unknown_word : ℕ → Kind → Bool
@@ -45,22 +43,33 @@ first_place (t ∷ ts) = t.place
 -- what the size shows
 abbrev pub size_excess : Option Size → Option TextCode
 size_excess None = Some FormalDegree
-size_excess (Some s) = if s.is_long then Some FormalTerms else None
+size_excess (Some s) = if s.is_high then Some FormalDegree else if s.is_long then Some FormalTerms else None
 
 -- what is too great, in the order of the refusals
-abbrev pub excess_of : List Placed → List Step → Option TextCode
-excess_of ts ss = if exceeds 0 ts then Some Limit else size_excess (outcome sizes ss)
+abbrev pub excess_of : List Placed → Option Size → Option TextCode
+excess_of ts size = if exceeds 0 ts then Some Limit else size_excess size
 
 abbrev pub fault_by : List Placed → Option ℕ → Option TextCode → Option TextFault
 fault_by ts (Some place) found = Some (record { place = place; code = Name })
 fault_by ts None (Some code) = Some (record { place = first_place ts; code = code })
 fault_by ts None None = None
 
--- the first refusal of tokens and steps, where there are `count` names
-abbrev pub fault_of : ℕ → List Placed → List Step → Option TextFault
-fault_of count ts ss = fault_by ts (first_unknown_word count ts) (excess_of ts ss)
+-- the first refusal of tokens and their size, where there are `count` names
+abbrev pub fault_of : ℕ → List Placed → Option Size → Option TextFault
+fault_of count ts size = fault_by ts (first_unknown_word count ts) (excess_of ts size)
 
--- the reader has these tokens of the text, and these steps of its expression
-pub record IsRead (p : ℕ) (names : List (List ℕ)) (text : List ℕ) (ts : List Placed) (ss : List Step) : Type 0 where
-  pub tokens : ts ≡ map (seen (literal_of p) (place_of names)) (tokens_of text)
-  pub steps : parsed (length text) initial ts ≡ Ok ss
+-- the reader has these tokens, sees them so, and has these steps of their expression
+pub record IsRead (p : ℕ) (known : List (List ℕ)) (tokens : List Token) (end : ℕ) (ts : List Placed) (ss : List Step) : Type 0 where
+  pub are : ts ≡ map (seen (literal_of p) (place_of known)) tokens
+  pub steps : parsed end initial ts ≡ Ok ss
+
+-- the reader sees these tokens of a fraction so, where the names are those of v variables and of abbreviations
+pub record AreSeen (p v : ℕ) (names : List (List ℕ)) (defs : List Definition) (known : List (List ℕ)) (ps : List Token) (ts : List Placed) : Type 0 where
+  pub are_known : known ≡ known_names names defs
+  pub many : length names ≡ v
+  pub are : ts ≡ map (seen (literal_of p) (place_of known)) ps
+
+-- and has these steps of their expression
+pub record IsFractionRead (p v : ℕ) (names : List (List ℕ)) (defs : List Definition) (known : List (List ℕ)) (ps : List Token) (end : ℕ) (ts : List Placed) (ss : List Step) : Type 0 where
+  pub tokens : AreSeen p v names defs known ps ts
+  pub steps : parsed end initial ts ≡ Ok ss

@@ -4,73 +4,25 @@ ghost use Rattle.std.specs.Prelude.{◌≡◌, ◌<◌, ◌-◌, ◌^◌, ℕ, L
 ghost use Rattle.rinv_algebra.specs.Residue.{residue_ops};
 ghost use Rattle.rinv_algebra.specs.Normal.{IsNormal};
 ghost use Rattle.rinv_text.specs.Faults.{OnFault};
-ghost use Rattle.rinv_text.specs.Sightings.{first_place, excess_of, fault_of, IsRead};
+ghost use Rattle.rinv_text.specs.Sightings.{IsRead};
+ghost use Rattle.rinv_text.specs.Tokens as Tokens;
 ghost use Rattle.rinv_text.specs.Grammar.{Tree};
 ghost use Rattle.rinv_text.specs.Stops.{Denotes, IsExpression, IsRefused};
 
-use crate::fault::{TextCode, TextFault, TextStop};
-use crate::limits::{first_unknown, is_past_limit};
+use crate::defs::Defs;
+use crate::fault::TextStop;
 use crate::names::Names;
 use crate::parser::parse;
+use crate::refusal::refusal;
 use crate::size::size_of;
 use crate::step::Step;
 use crate::token::Placed;
 use crate::tokens::read_tokens;
-use crate::value::value_of;
+use crate::value::numerator_of;
+use rinv_frac::FracRing;
 use rinv_poly::{KPoly, PolyRing};
 use rinv_ring::Gf;
 use std::alloc::{AllocError as NoMemory, Global};
-
-// The place of the first token.
-fn start(tokens: &[Placed]) -> u32
-    ensures { result ≡ first_place tokens.now }
-{
-    match tokens.first() {
-        Some(token) => token.place,
-        None => 0,
-    }
-}
-
-// What is too great in the expression.
-fn excess(alloc: Global, tokens: &[Placed], steps: &[Step]) -> Result<Option<TextCode>, NoMemory>
-    ensures { IfOk result (λ o. o ≡ excess_of tokens.now steps.now) }
-{
-    if is_past_limit(tokens) {
-        return Ok(Some(TextCode::Limit));
-    }
-    match size_of(alloc, steps)? {
-        None => Ok(Some(TextCode::FormalDegree)),
-        Some(size) => {
-            if size.is_long {
-                Ok(Some(TextCode::FormalTerms))
-            } else {
-                Ok(None)
-            }
-        }
-    }
-}
-
-// The first refusal of the expression, where there are `count` names.
-fn refusal(
-    alloc: Global,
-    count: u32,
-    tokens: &[Placed],
-    steps: &[Step],
-) -> Result<Option<TextFault>, NoMemory>
-    ensures { IfOk result (λ o. o ≡ fault_of count tokens.now steps.now) }
-{
-    if let Some(place) = first_unknown(count, tokens) {
-        return Ok(Some(TextFault {
-            place,
-            code: TextCode::Name,
-        }));
-    }
-    let Some(code) = excess(alloc, tokens, steps)? else {
-        return Ok(None);
-    };
-    let place = start(tokens);
-    Ok(Some(TextFault { place, code }))
-}
 
 // The polynomial of an expression, unless it is refused.
 fn accepted(
@@ -80,21 +32,21 @@ fn accepted(
     names: &Names,
     field: &Gf,
 ) -> Result<KPoly, TextStop>
-    requires { (text : List ℕ) × IsRead field.now names.now text tokens.now steps.now }
+    requires { (text : List ℕ) × IsRead field.now names.now (Tokens.tokens text) (length text) tokens.now steps.now }
     ensures normal { IfOk result (IsNormal (residue_ops field.now) (λ c. nat_lt c field.now) (length names.now)) }
-    ensures value { (text : List ℕ) → IsRead field.now names.now text tokens.now steps.now → IfOk result (Denotes field.now names.now text) }
-    ensures fault { (text : List ℕ) → IsRead field.now names.now text tokens.now steps.now → IfErr result (OnFault (IsRefused names.now text)) }
+    ensures value { (text : List ℕ) → IsRead field.now names.now (Tokens.tokens text) (length text) tokens.now steps.now → IfOk result (Denotes field.now names.now text) }
+    ensures fault { (text : List ℕ) → IsRead field.now names.now (Tokens.tokens text) (length text) tokens.now steps.now → IfErr result (OnFault (IsRefused names.now text)) }
 {
-    let _p = field.modulus();
+    let _p = field.modulus(); // a listed one
     let count = names.len();
-    match refusal(alloc, count, tokens, steps)? {
-        Some(fault) => Err(TextStop::Fault(fault)),
-        None => {
-            let ring = PolyRing::new(*field, count);
-            let polynomial = value_of(alloc, steps, &ring)?;
-            Ok(polynomial)
-        }
+    let defs = Defs::empty(alloc);
+    let size = size_of(alloc, steps, count, &defs)?;
+    if let Some(fault) = refusal(count, tokens, size) {
+        return Err(TextStop::Fault(fault));
     }
+    let field = FracRing::new(PolyRing::new(*field, count));
+    let polynomial = numerator_of(alloc, steps, &defs, &field)?;
+    Ok(polynomial)
 }
 
 /// The polynomial over the field that the bytes of a text denote, in the variables with these names; or the first fault of the text: it is no
@@ -107,7 +59,7 @@ pub fn read_bytes(alloc: Global, bytes: &[u8], names: &Names, field: &Gf) -> Res
     ensures value { IfOk result (Denotes field.now names.now bytes.now) }
     ensures fault { IfErr result (OnFault (IsRefused names.now bytes.now)) }
 {
-    let tokens = read_tokens(alloc, bytes, names, field)?;
+    let tokens = read_tokens(alloc, bytes, names, field, false)?;
     match parse(alloc, &tokens, bytes.len() as u32) {
         Ok(steps) => accepted(alloc, &tokens, &steps, names, field),
         Err(stop) => Err(stop),
@@ -132,7 +84,7 @@ pub fn is_expression(alloc: Global, bytes: &[u8]) -> Result<bool, NoMemory>
     let Ok(field) = Gf::new(2) else {
         unreachable!()
     };
-    let tokens = read_tokens(alloc, bytes, &Names::empty(alloc), &field)?;
+    let tokens = read_tokens(alloc, bytes, &Names::empty(alloc), &field, false)?;
     match parse(alloc, &tokens, bytes.len() as u32) {
         Ok(_) => Ok(true),
         Err(TextStop::Fault(_)) => Ok(false),

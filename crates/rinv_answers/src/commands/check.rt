@@ -1,17 +1,17 @@
 //! The answer to the bytes of a certificate: a text and how it ends.
 
-ghost use Rattle.std.specs.Prelude.{◌≡◌, ◌<◌, ◌^◌, [], length, true, IfOk, None, codes};
-ghost use Rattle.rinv_defs.specs.Names.{are_names};
+ghost use Rattle.std.specs.Prelude.{◌≡◌, IfOk, None, codes};
 ghost use Rattle.rinv_defs.specs.Format.{format_failure};
-ghost use Rattle.rinv_defs.specs.Text.{yes_text, no_text, refused_text};
+ghost use Rattle.rinv_defs.specs.Text.{yes_text, kind_text, no_text, refused_text};
 ghost use Rattle.rinv_cert.specs.Faults.{part_word};
+ghost use Rattle.rinv_cert.specs.Seen.{kind_of, plain};
 ghost use Rattle.rinv_answers.specs.Commands.Check.{IsCheckAnswer};
 
 use crate::ending::Ending;
 use crate::fraction::write_lines;
-use rinv_cert::{CertFault, CertStop, Certificate, Name, from_json};
-use rinv_check::{FormatStop, Verdict, check, stored};
-use rinv_text::{Names, TextStop};
+use rinv_cert::{CertFault, CertStop, Certificate, Kind, from_json};
+use rinv_check::{Verdict, check};
+use rinv_form::{FormatStop, names_of, sizes_in, stored};
 use std::alloc::{AllocError as NoMemory, Global};
 
 /// What is printed for the bytes of a certificate, and how that ends.
@@ -55,45 +55,32 @@ fn failure_line(alloc: Global, condition: u32, index: u32) -> Result<Vec<u8>, No
     Ok(line.into_bytes())
 }
 
+// What an accepted certificate of a kind shows.
+fn kind_line(kind: Kind) -> &'static str
+    ensures { result.now ≡ kind_text (kind_of kind) }
+{
+    match kind {
+        Kind::Invariance => "invariant\n",
+        Kind::Sound => "sound\n",
+        Kind::Full => "complete\n",
+    }
+}
+
 // The lines of an accepted certificate.
 fn yes_lines(alloc: Global, certificate: &Certificate) -> Result<Vec<u8>, NoMemory>
-    requires { format_failure certificate.now ≡ None }
-    ensures { IfOk result (λ v. v.items ≡ yes_text certificate.now) }
+    requires { format_failure (plain certificate.now) ≡ None }
+    ensures { IfOk result (λ v. v.items ≡ yes_text (plain certificate.now)) }
 {
     let parts = match stored(alloc, certificate) {
         Ok(parts) => parts,
         Err(FormatStop::NoMemory) => return Err(NoMemory),
         Err(FormatStop::Part(_)) => unreachable!(),
     };
-    let system = &certificate.system;
-    let names = names_of(alloc, system.space.as_slice())?;
+    let field = sizes_in(&parts).field;
+    let names = names_of(alloc, certificate.system.space.as_slice())?;
     let mut out = Vec::new(alloc);
     out.extend_from_slice(b"yes\n")?;
-    write_lines(
-        alloc,
-        parts.field,
-        &names,
-        parts.fractions.as_slice(),
-        &mut out,
-    )?;
-    out.extend_from_slice(b"invariant\n")?;
+    write_lines(alloc, field, &names, parts.fractions.as_slice(), &mut out)?;
+    out.extend_from_slice(kind_line(certificate.kind).as_bytes())?;
     Ok(out)
-}
-
-// The names of a system's variables, as a list of names.
-fn names_of(alloc: Global, names: &[Name]) -> Result<Names, NoMemory>
-    requires form { are_names [] names.now ≡ true }
-    requires few { length names.now < 2 ^ 32 }
-    ensures { IfOk result (λ n. n ≡ names.now) }
-{
-    let mut words = Vec::new(alloc);
-    for name in names {
-        let word = String::from_str(alloc, name.as_str())?;
-        words.push(word)?;
-    }
-    match Names::from_words(alloc, &words) {
-        Ok(names) => Ok(names),
-        Err(TextStop::NoMemory) => Err(NoMemory),
-        Err(TextStop::Fault(_)) => unreachable!(),
-    }
 }

@@ -1,17 +1,12 @@
-use Rattle.std.proofs.Common.{sym, ap, ◌∙◌}
+use Rattle.std.proofs.Common.{reverse, sym, ap, ◌∙◌}
 use Rattle.rinv_text.specs.declared.step.Step.{Step}
 use Rattle.rinv_text.specs.Evaluation.{step}
-use Rattle.rinv_text.specs.Meanings.{meanings}
+use Rattle.rinv_text.specs.Meanings.{meanings, named_at}
+use Rattle.rinv_text.proofs.Piles.{none-returns}
 use Rattle.rinv_text.proofs.value.value_after.Goals as goal
 
-pub returns-in-Sum : goal.returns-in-Sum
-returns-in-Sum c = λ gs hs pile e. c.sum.ensures gs hs pile (sym (ap (λ (n : Step). step (meanings c.args.ring.now.coeffs c.args.ring.now.vars) n gs) c.in-Sum.is) ∙ e)
-
-pub returns-in-Difference : goal.returns-in-Difference
-returns-in-Difference c = λ gs hs pile e. c.difference.ensures gs hs pile (sym (ap (λ (n : Step). step (meanings c.args.ring.now.coeffs c.args.ring.now.vars) n gs) c.in-Difference.is) ∙ e)
-
-pub returns-in-Product : goal.returns-in-Product
-returns-in-Product c = λ gs hs pile e. c.product.ensures gs hs pile (sym (ap (λ (n : Step). step (meanings c.args.ring.now.coeffs c.args.ring.now.vars) n gs) c.in-Product.is) ∙ e)
-
-pub returns-in-Power : goal.returns-in-Power
-returns-in-Power c = λ gs hs pile e. c.power.ensures gs hs pile (sym (ap (λ (n : Step). step (meanings c.args.ring.now.coeffs c.args.ring.now.vars) n gs) c.in-Power.is) ∙ e)
+pub returns-in_ok-value-in-Variable : goal.returns-in_ok-value-in-Variable
+returns-in_ok-value-in-Variable c = λ gs hs pile e.
+    none-returns c.args.field.now.base.coeffs c.args.field.now.base.vars (reverse c.args.stack.now.items) c.in_ok-value-in-Variable.value gs hs (named_at c.args.field.now.base.coeffs c.args.field.now.base.vars c.args.defs.now c.in-Variable.k) pile
+    (sym (ap (λ (n : Step). step (meanings c.args.field.now.base.coeffs (named_at c.args.field.now.base.coeffs c.args.field.now.base.vars c.args.defs.now)) n gs) c.in-Variable.is) ∙ e)
+    (λ z h. c.in_ok-value-in-Variable.ensures z h)

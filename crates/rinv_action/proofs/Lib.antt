@@ -1,0 +1,3 @@
+pub mod BlockSizes
+pub mod Generators
+pub mod ActionFacts

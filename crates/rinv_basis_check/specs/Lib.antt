@@ -1,0 +1,4 @@
+pub mod Listed
+pub mod Bases
+pub mod Relations
+pub mod Multiples

@@ -1,0 +1,329 @@
+//! Systems, and the reduced bases of their extended ideals.
+
+use rinv_buch::{Stop, Why};
+use rinv_div::Budget;
+use rinv_elim::{ElimStop, action_basis, eliminate, localise, reduce};
+use rinv_frac::FracRing;
+use rinv_mono::Mono;
+use rinv_poly::{KPoly, PolyRing};
+use rinv_system::read_system;
+use rinv_tails::{FracRelation, Monic};
+use rinv_text::{System, read_poly};
+use std::alloc::Global;
+use std::cmp::Ordering;
+
+// Rotations of the plane: Z moves on the circle through x.
+const ROTATIONS: &[u8] =
+    b"field 101\ngroup a, b\nspace x, y\nideal a^2+b^2-1\nunit 1, 0\nproduct a*a'-b*b', a*b'+b*a'\ninverse a, -b\naction a*x-b*y, b*x+a*y\n";
+
+// Translations along x, whose group has no ideal.
+const TRANSLATIONS: &[u8] =
+    b"field 101\ngroup a\nspace x, y\nunit 0\nproduct a+a'\ninverse -a\naction x+a, y\n";
+
+// Scalings of the plane.
+const SCALINGS: &[u8] =
+    b"field 101\ngroup a, b\nspace x, y\nideal a*b-1\nunit 1, 1\nproduct a*a', b*b'\ninverse b, a\naction a*x, a*y\n";
+
+// Signs on the plane.
+const SIGNS: &[u8] =
+    b"field 7\ngroup a\nspace x, y\nideal a^2-1\nunit 1\nproduct a*a'\ninverse a\naction a*x, a*y\n";
+
+// Translations of the line by the numbers modulo 5.
+const SHIFTS: &[u8] =
+    b"field 5\ngroup a\nspace x\nideal a^5-a\nunit 0\nproduct a+a'\ninverse -a\naction x+a\n";
+
+// Exchange of two coordinates; 4 is the half of 1.
+const EXCHANGES: &[u8] =
+    b"field 7\ngroup a\nspace x, y\nideal a^2-1\nunit 1\nproduct a*a'\ninverse a\naction 4*(1+a)*x+4*(1-a)*y, 4*(1-a)*x+4*(1+a)*y\n";
+
+// The matrices of determinant 1, on binary quadratics.
+const QUADRATICS: &[u8] =
+    b"field 32003\ngroup a, b, c, d\nspace u, v, w\nideal a*d-b*c-1\nunit 1, 0, 0, 1\nproduct a*a'+b*c', a*b'+b*d', c*a'+d*c', c*b'+d*d'\ninverse d, -b, -c, a\naction a^2*u+a*b*v+b^2*w, 2*a*c*u+(a*d+b*c)*v+2*b*d*w, c^2*u+c*d*v+d^2*w\n";
+
+// Rigid motions of two points of the plane.
+const MOTIONS: &[u8] =
+    b"field 101\ngroup a, b, c, d\nspace u, v, s, t\nideal a^2+b^2-1\nunit 1, 0, 0, 0\nproduct a*a'-b*b', a*b'+b*a', a*c'-b*d'+c, b*c'+a*d'+d\ninverse a, -b, -a*c-b*d, b*c-a*d\naction a*u-b*v+c, b*u+a*v+d, a*s-b*t+c, b*s+a*t+d\n";
+
+// A lead, and terms with their numerators and denominators.
+type Row<'a> = (&'a [u32], &'a [(&'a [u32], &'a str, &'a str)]);
+
+const OF_ROTATIONS: &[Row] = &[(&[2, 0], &[(&[0, 2], "-1", "1"), (&[0, 0], "x^2+y^2", "1")])];
+
+const OF_TRANSLATIONS: &[Row] = &[(&[0, 1], &[(&[0, 0], "y", "1")])];
+
+const OF_SCALINGS: &[Row] = &[(&[1, 0], &[(&[0, 1], "x", "y")])];
+
+const OF_SIGNS: &[Row] = &[
+    (&[1, 0], &[(&[0, 1], "x", "y")]),
+    (&[0, 2], &[(&[0, 0], "y^2", "1")]),
+];
+
+const OF_SHIFTS: &[Row] = &[(&[5], &[(&[1], "1", "1"), (&[0], "x^5-x", "1")])];
+
+const OF_EXCHANGES: &[Row] = &[
+    (&[1, 0], &[(&[0, 1], "-1", "1"), (&[0, 0], "x+y", "1")]),
+    (&[0, 2], &[(&[0, 1], "x+y", "1"), (&[0, 0], "-x*y", "1")]),
+];
+
+const OF_QUADRATICS: &[Row] = &[(
+    &[0, 2, 0],
+    &[(&[1, 0, 1], "4", "1"), (&[0, 0, 0], "v^2-4*u*w", "1")],
+)];
+
+const OF_MOTIONS: &[Row] = &[(
+    &[2, 0, 0, 0],
+    &[
+        (&[0, 2, 0, 0], "-1", "1"),
+        (&[1, 0, 1, 0], "2", "1"),
+        (&[0, 0, 2, 0], "-1", "1"),
+        (&[0, 1, 0, 1], "2", "1"),
+        (&[0, 0, 0, 2], "-1", "1"),
+        (&[0, 0, 0, 0], "(u-s)^2+(v-t)^2", "1"),
+    ],
+)];
+
+// x = 0 and y stays.
+const ON_SECTION: &[Row] = &[(&[0, 1], &[(&[0, 0], "y", "1")]), (&[1, 0], &[])];
+
+// The system of a text.
+fn system_of(alloc: Global, text: &[u8]) -> Option<System> {
+    if text.len() > 10_000 {
+        return None;
+    }
+    match read_system(alloc, text) {
+        Ok(system) => Some(system),
+        Err(_) => None,
+    }
+}
+
+// The reduced basis of its extended ideal.
+fn basis_of(alloc: Global, system: &System) -> Option<Monic> {
+    let mut endless = Budget::without_end();
+    let Ok(basis) = action_basis(alloc, system, &mut endless) else {
+        return None;
+    };
+    let Ok(cut) = eliminate(alloc, system, &basis) else {
+        return None;
+    };
+    let Ok(relations) = localise(alloc, system, &cut) else {
+        return None;
+    };
+    match reduce(alloc, system, relations) {
+        Ok(reduced) => Some(reduced),
+        Err(_) => None,
+    }
+}
+
+// Whether the monomial has these exponents.
+fn has_exponents(mono: &Mono, wanted: &[u32]) -> bool {
+    if mono.vars() as usize != wanted.len() {
+        return false;
+    }
+    for k in 0..wanted.len() {
+        if mono.exponent_or_zero(k as u32) != wanted[k] {
+            return false;
+        }
+    }
+    true
+}
+
+// Whether the polynomial in the space's variables is that of the text.
+fn is_poly(alloc: Global, system: &System, f: &KPoly, text: &str) -> bool {
+    if text.len() > 10_000 {
+        return false;
+    }
+    let Ok(wanted) = read_poly(alloc, text, &system.space, &system.field) else {
+        return false;
+    };
+    let (left, right) = (f.terms(), wanted.terms());
+    if left.len() != right.len() {
+        return false;
+    }
+    for k in 0..left.len() {
+        let ((mono, c), (other, d)) = (&left[k], &right[k]);
+        if mono.lex(other) != Ordering::Equal || c != d {
+            return false;
+        }
+    }
+    true
+}
+
+// Whether the relation is that of the row.
+fn is_row(alloc: Global, system: &System, relation: &FracRelation, row: &Row) -> bool {
+    let field = FracRing::new(PolyRing::new(system.field, system.space.len()));
+    let (lead, tail) = row;
+    if !has_exponents(&relation.lead, lead) || relation.tail.len() != tail.len() {
+        return false;
+    }
+    for k in 0..tail.len() {
+        let (mono, fraction) = &relation.tail[k];
+        let (wanted, num, den) = &tail[k];
+        if !has_exponents(mono, wanted)
+            || !is_poly(alloc, system, field.num(fraction), num)
+            || !is_poly(alloc, system, field.den(fraction), den)
+        {
+            return false;
+        }
+    }
+    true
+}
+
+// Whether the reduced basis of the system is this.
+fn has_basis(alloc: Global, text: &[u8], rows: &[Row]) -> bool {
+    match system_of(alloc, text) {
+        Some(system) => is_basis(alloc, &system, rows),
+        None => false,
+    }
+}
+
+// The system of a text, with polynomials for its section.
+fn system_on(alloc: Global, text: &[u8], section: &[&str]) -> Option<System> {
+    let mut system = system_of(alloc, text)?;
+    for k in 0..section.len() {
+        if section[k].len() > 10_000 {
+            return None;
+        }
+        let Ok(f) = read_poly(alloc, section[k], &system.space, &system.field) else {
+            return None;
+        };
+        if system.section.push(f).is_err() {
+            return None;
+        }
+    }
+    Some(system)
+}
+
+// Whether its reduced basis is this on the section.
+fn has_basis_on(alloc: Global, text: &[u8], section: &[&str], rows: &[Row]) -> bool {
+    match system_on(alloc, text, section) {
+        Some(system) => is_basis(alloc, &system, rows),
+        None => false,
+    }
+}
+
+// Whether the section misses the orbits, by this element.
+fn misses_by(alloc: Global, text: &[u8], section: &[&str], wanted: &str) -> bool {
+    let Some(system) = system_on(alloc, text, section) else {
+        return false;
+    };
+    let mut endless = Budget::without_end();
+    let Ok(basis) = action_basis(alloc, &system, &mut endless) else {
+        return false;
+    };
+    let Ok(cut) = eliminate(alloc, &system, &basis) else {
+        return false;
+    };
+    match localise(alloc, &system, &cut) {
+        Err(ElimStop::Whole { element }) => is_poly(alloc, &system, &element, wanted),
+        _ => false,
+    }
+}
+
+// Whether the reduced basis of the system is this.
+fn is_basis(alloc: Global, system: &System, rows: &[Row]) -> bool {
+    let Some(basis) = basis_of(alloc, system) else {
+        return false;
+    };
+    if basis.relations.len() != rows.len() {
+        return false;
+    }
+    for k in 0..rows.len() {
+        if !is_row(alloc, system, &basis.relations[k], &rows[k]) {
+            return false;
+        }
+    }
+    true
+}
+
+#[test]
+fn makes_the_reduced_basis(rt: HostRuntime) {
+    for (text, rows) in [
+        (ROTATIONS, OF_ROTATIONS),
+        (TRANSLATIONS, OF_TRANSLATIONS),
+        (SCALINGS, OF_SCALINGS),
+        (SIGNS, OF_SIGNS),
+        (SHIFTS, OF_SHIFTS),
+        (EXCHANGES, OF_EXCHANGES),
+    ] {
+        assert!(rt;
+            has_basis(rt.alloc(), text, rows),
+            "each system has its basis"
+        );
+    }
+}
+
+// What stops the run on the system with this budget: a pair, a step, or neither.
+fn stopped_by(alloc: Global, text: &[u8], pairs: u32, steps: u64) -> u32 {
+    let Some(system) = system_of(alloc, text) else {
+        return 3;
+    };
+    let mut budget = Budget {
+        pairs,
+        steps,
+        pairs_spent: 0,
+        steps_spent: 0,
+        endless: false,
+    };
+    match action_basis(alloc, &system, &mut budget) {
+        Err(Stop::Incomplete(halt)) => match halt.why {
+            Why::Pairs { .. } => 1,
+            Why::Steps { .. } => 2,
+            Why::Degree { .. } => 3,
+        },
+        Err(_) => 3,
+        Ok(_) => 0,
+    }
+}
+
+#[test]
+fn cuts_orbits_by_a_section(rt: HostRuntime) {
+    assert!(rt;
+        has_basis_on(rt.alloc(), TRANSLATIONS, &["x"], ON_SECTION),
+        "x = 0 meets each orbit once"
+    );
+}
+
+#[test]
+fn tells_a_section_that_misses_orbits(rt: HostRuntime) {
+    assert!(rt;
+        misses_by(rt.alloc(), TRANSLATIONS, &["y-1"], "y-1"),
+        "y = 1 misses most orbits"
+    );
+    assert!(rt;
+        misses_by(rt.alloc(), TRANSLATIONS, &["y"], "y"),
+        "so does y = 0"
+    );
+    assert!(rt;
+        misses_by(rt.alloc(), SCALINGS, &["x-1", "x-2"], "1"),
+        "and an empty section misses them all"
+    );
+}
+
+#[test]
+fn makes_the_reduced_basis_of_larger_groups(rt: HostRuntime) {
+    for (text, rows) in [(QUADRATICS, OF_QUADRATICS), (MOTIONS, OF_MOTIONS)] {
+        assert!(rt;
+            has_basis(rt.alloc(), text, rows),
+            "one invariant gives the one relation"
+        );
+    }
+}
+
+#[test]
+fn stops_where_the_budget_ends(rt: HostRuntime) {
+    assert_eq!(rt;
+        stopped_by(rt.alloc(), ROTATIONS, 0, 1000),
+        1,
+        "no pair may be taken"
+    );
+    assert_eq!(rt;
+        stopped_by(rt.alloc(), ROTATIONS, 1000, 0),
+        2,
+        "no step may be made"
+    );
+    assert_eq!(rt;
+        stopped_by(rt.alloc(), ROTATIONS, 1000, 1000),
+        0,
+        "and this is enough"
+    );
+}

@@ -1,0 +1,12 @@
+pub mod Kept
+pub mod KeptParts
+pub mod StoredLists
+pub mod StoredPolynomials
+pub mod FirstParts
+pub mod SeenForms
+pub mod TrimmedForms
+pub mod FormParts
+pub mod DistinctLists
+pub mod LawTests
+pub mod RelationParts
+pub mod FormatParts

@@ -1,0 +1,6 @@
+pub mod Tails
+pub mod Gaps
+pub mod AddedTerms
+pub mod Multiples
+pub mod Steps
+pub mod ReducedLists
