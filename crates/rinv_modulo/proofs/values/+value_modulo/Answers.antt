@@ -1,5 +1,5 @@
 use Rattle.std.proofs.Common.{sym, ◌∙◌, arith}
-use Rattle.rinv_sub.proofs.Halves.{no-item, two-parts, one-item}
+use Rattle.rinv_modulo.proofs.Halves.{no-item, two-parts, one-item}
 use Rattle.rinv_modulo.proofs.TermValues.{values-none, values-one, values-halves}
 use Rattle.rinv_modulo.proofs.values.+value_modulo.Goals as goal
 
