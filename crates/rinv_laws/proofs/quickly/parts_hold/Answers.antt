@@ -10,8 +10,8 @@ use Rattle.rinv_parts.proofs.Stored.{normal-over}
 use Rattle.rinv_laws.proofs.LawsModulo.{law-holds}
 use Rattle.rinv_laws.proofs.quickly.parts_hold.Goals as goal
 
-pub polynomial_variables-requires : goal.polynomial_variables-requires
-polynomial_variables-requires c = c.requires.parts.ring.system
+pub polynomial_variables-vars-requires : goal.polynomial_variables-vars-requires
+polynomial_variables-vars-requires c = c.requires.parts.ring.system
 
 pub holds_at-requires-clause-polynomials : goal.holds_at-requires-clause-polynomials
 holds_at-requires-clause-polynomials c =
