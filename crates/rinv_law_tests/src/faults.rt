@@ -1,7 +1,7 @@
 //! What the test of the laws answers: that they hold, or the first part that is false.
 
 use rinv_div::Budget;
-use rinv_laws::{LawName, LawQuotients, LawStop, group_basis, test_laws};
+use rinv_laws::{LawName, LawQuotients, LawStop, group_basis, laws_hold, test_laws};
 use rinv_system::read_system;
 use std::alloc::Global;
 
@@ -32,6 +32,21 @@ fn answer(alloc: Global, text: &[u8]) -> Option<Result<LawQuotients, LawStop>> {
     }
 }
 
+// Whether the quick test finds that the laws hold; `otherwise` where there is no answer.
+fn found(alloc: Global, text: &[u8], otherwise: bool) -> bool {
+    if text.len() > 10_000 {
+        return otherwise;
+    }
+    let Ok(system) = read_system(alloc, text) else {
+        return otherwise;
+    };
+    let mut endless = Budget::without_end();
+    let Ok(group) = group_basis(alloc, &system, &mut endless) else {
+        return otherwise;
+    };
+    laws_hold(alloc, &system, &group).unwrap_or(otherwise)
+}
+
 // Whether the laws hold.
 fn hold(alloc: Global, text: &[u8]) -> bool {
     matches!(answer(alloc, text), Some(Ok(_)))
@@ -58,5 +73,18 @@ fn tells_whether_laws_hold(rt: HostRuntime) {
     assert!(rt;
         is_false(rt.alloc(), DOUBLES, LawName::L2, 0),
         "the first of two false parts"
+    );
+}
+
+#[test]
+fn finds_quickly_that_laws_hold(rt: HostRuntime) {
+    assert!(rt; found(rt.alloc(), ROTATIONS, false), "rotations");
+    assert!(rt;
+        !found(rt.alloc(), SQUARES, true),
+        "sums do not act by squares"
+    );
+    assert!(rt;
+        !found(rt.alloc(), DOUBLES, true),
+        "a product that is no point"
     );
 }

@@ -25,7 +25,7 @@ law-at L6 = refl
 law-at A1 = refl
 law-at A2 = refl
 
-rank-low : (law : Law) → rank law < 8
+pub rank-low : (law : Law) → rank law < 8
 rank-low L1 = omega arith
 rank-low L2 = omega arith
 rank-low L3 = omega arith

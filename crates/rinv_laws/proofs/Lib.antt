@@ -10,3 +10,4 @@ pub mod CopiedFacts
 pub mod TestedLaws
 pub mod LawsInTurn
 pub mod FirstFaults
+pub mod LawsModulo

@@ -4,3 +4,4 @@ pub mod Faults
 pub mod Stopped
 pub mod Tested
 pub mod Proofs
+pub mod Modulo

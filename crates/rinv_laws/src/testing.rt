@@ -29,8 +29,8 @@ use rinv_text::System;
 use std::alloc::Global;
 use std::marker::Model;
 
-// The laws in the order in which they are tested.
-const LAWS: [LawName; 8] = [
+/// The laws in the order in which they are tested.
+pub(crate) const LAWS: [LawName; 8] = [
     LawName::L1,
     LawName::L2,
     LawName::L3,

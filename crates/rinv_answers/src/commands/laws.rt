@@ -10,7 +10,7 @@ use crate::incomplete::{Cause, Phase, cause_of, incomplete_line};
 use crate::law_lines::{fault_line, hold_line, refused_line};
 use rinv_buch::Stop;
 use rinv_div::Budget;
-use rinv_laws::{LawStop, group_basis, test_laws};
+use rinv_laws::{LawStop, group_basis, laws_hold, test_laws};
 use rinv_system::{SystemStop, read_system};
 use rinv_text::System;
 use std::alloc::{AllocError as NoMemory, Global};
@@ -48,6 +48,11 @@ fn tested(alloc: Global, system: &System) -> Result<(Vec<u8>, Ending), NoMemory>
         }
         Err(Stop::NoMemory) => return Err(NoMemory),
     };
+    let hold = laws_hold(alloc, system, &group)?;
+    if hold {
+        let text = hold_line(alloc)?;
+        return Ok((text, Ending::Done));
+    }
     match test_laws(alloc, system, &group) {
         Ok(_quotients) => {
             let text = hold_line(alloc)?;

@@ -1,0 +1,4 @@
+pub mod Congruences
+pub mod Powers
+pub mod Halves
+pub mod TermValues
