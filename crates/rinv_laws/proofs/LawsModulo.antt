@@ -18,7 +18,6 @@ use Rattle.rinv_algebra.specs.Value.{substitute}
 use Rattle.rinv_algebra.specs.Ideal.{IsMember}
 use Rattle.rinv_algebra.proofs.PolynomialLaws.{poly_laws}
 use Rattle.rinv_algebra.proofs.ResidueLaws.{residue_laws}
-use Rattle.rinv_algebra.proofs.RingFacts as facts
 use Rattle.rinv_groebner.proofs.MemberLists.{member-same, member_trans}
 use Rattle.rinv_sub.proofs.Images.{substitute-images}
 use Rattle.rinv_sub.proofs.KnownPowers.{each-push}

@@ -28,14 +28,14 @@ use Rattle.rinv_buch.proofs.InVariables.{all-in_variables}
 use Rattle.rinv_defs.specs.System.{System, Poly, group_count, ideal_copies}
 use Rattle.rinv_defs.specs.SystemForm.{IsSystem}
 use Rattle.rinv_defs.specs.Laws.{Law, copies, parts, LawHolds}
-use Rattle.rinv_parts.specs.LawNames.{law_of, variables_of}
+use Rattle.rinv_parts.specs.LawNames.{variables_of}
 use Rattle.rinv_parts.specs.Parts.{IsPart, part_at, part_meets}
 use Rattle.rinv_parts.specs.Points.{ArePolynomials}
 use Rattle.rinv_laws.specs.declared.copied.CopiedBasis.{CopiedBasis}
 use Rattle.rinv_laws.specs.declared.stop.LawStop.{LawStop}
 use Rattle.rinv_laws.specs.declared.stop.LawStop.TheVariants.{Fault, Degree, NoMemory}
 use Rattle.rinv_laws.specs.Copied.{kept_copies, AreQuotients, IsAsked, IsZeroPart}
-use Rattle.rinv_laws.specs.Faults.{PartHolds, HoldBefore, HoldsUpTo, IsFalsePart, IsFirstFault, PartMeets, TestMeets, LawStopsSo}
+use Rattle.rinv_laws.specs.Faults.{PartHolds, HoldBefore, IsFalsePart, IsFirstFault, PartMeets, TestMeets, LawStopsSo}
 use Rattle.rinv_laws.specs.Group.{IsGroupBasis}
 use Rattle.rinv_laws.specs.Stopped.{stop_of}
 use Rattle.rinv_laws.specs.Tested.{DivisionStops, FaultIn, IsCopiedBasis, LeavesNothing, LeavesRest, PartStops}

@@ -1,5 +1,5 @@
 -- What the test of one part answers.
-use Rattle.std.specs.Prelude.{◌≡◌, ℕ, ◌<◌, List, nat_lt, IsTrue, IsFalse, ⊤}
+use Rattle.std.specs.Prelude.{◌≡◌, ℕ, List, nat_lt, IsTrue, IsFalse, ⊤}
 use Rattle.rinv_algebra.specs.Residue.{residue_ops}
 use Rattle.rinv_algebra.specs.Order.{grevlex}
 use Rattle.rinv_algebra.specs.Polynomial.{is_zero}
@@ -16,7 +16,7 @@ use Rattle.rinv_parts.specs.Points.{ArePolynomials}
 use Rattle.rinv_laws.specs.declared.copied.CopiedBasis.{CopiedBasis}
 use Rattle.rinv_laws.specs.declared.stop.LawStop.{LawStop}
 use Rattle.rinv_laws.specs.declared.stop.LawStop.TheVariants.{Fault, Degree, NoMemory}
-use Rattle.rinv_laws.specs.Copied.{kept_copies, IsZeroPart}
+use Rattle.rinv_laws.specs.Copied.{kept_copies}
 use Rattle.rinv_laws.specs.Faults.{IsFalsePart, PartMeets}
 
 -- ---- division of a polynomial

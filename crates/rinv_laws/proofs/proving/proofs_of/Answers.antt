@@ -2,7 +2,6 @@ use Rattle.std.proofs.Common.{◌≡◌, inl, inr, ◌∙◌, ◌++◌, ◌*◌,
 use Rattle.std.proofs.lemmas.List.{length-map, map_push, take_all}
 use Rattle.std.proofs.lemmas.List.Elements.{All-nil, All-push}
 use Rattle.std.proofs.lemmas.Result.{err_from_is_err_and}
-use Rattle.rinv_algebra.specs.Residue.{residue_ops}
 use Rattle.rinv_ring.specs.Fault.{DegreesMeet}
 use Rattle.rinv_poly.proofs.Meets.{meet-weaker}
 use Rattle.rinv_sub.proofs.Sums.{take-at}

@@ -1,13 +1,8 @@
-use Rattle.std.proofs.Common.{◌≡◌, ◌∙◌, ℕ, List, [], map, length, get_or, sym, ap, subst, arith}
+use Rattle.std.proofs.Common.{◌≡◌, ◌∙◌, [], map, length, get_or, sym, ap, subst, arith}
 use Rattle.std.specs.Prelude.{IfOk, OnOk}
-use Rattle.rinv_algebra.specs.Order.{grevlex}
-use Rattle.rinv_algebra.specs.Residue.{residue_ops}
 use Rattle.rinv_groebner.specs.Copies.{copies as copied}
-use Rattle.rinv_groebner.specs.Division.{AreSame}
 use Rattle.rinv_text.specs.Told.{Told}
-use Rattle.rinv_div.specs.Divisors.{AreDivisors}
-use Rattle.rinv_defs.specs.System.{Poly}
-use Rattle.rinv_defs.specs.Laws.{copies, Law, LawHolds}
+use Rattle.rinv_defs.specs.Laws.{LawHolds}
 use Rattle.rinv_parts.specs.declared.law.LawName.{LawName}
 use Rattle.rinv_parts.specs.LawNames.{law_of, variables_of}
 use Rattle.rinv_parts.proofs.Stored.{normal-over}

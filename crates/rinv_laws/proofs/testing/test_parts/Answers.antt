@@ -1,10 +1,9 @@
-use Rattle.std.proofs.Common.{◌≡◌, ◌∙◌, ℕ, List, [], ◌∷◌, length, map, subst, arith}
+use Rattle.std.proofs.Common.{◌≡◌, List, [], ◌∷◌, length, map, arith}
 use Rattle.std.proofs.lemmas.List.{map-append}
 use Rattle.std.proofs.lemmas.Result.{err_from_is_err_and}
 use Rattle.rinv_defs.specs.System.{Poly}
 use Rattle.rinv_defs.specs.Laws.{parts}
 use Rattle.rinv_parts.specs.LawNames.{law_of}
-use Rattle.rinv_laws.specs.declared.stop.LawStop.TheVariants.{NoMemory}
 use Rattle.rinv_laws.proofs.TestedLaws.{stops-at, tested-holds, tested-more, tested-none, tested-quotients}
 use Rattle.rinv_laws.proofs.testing.test_parts.Goals as goal
 
