@@ -1,6 +1,6 @@
 -- A system with one more polynomial in its section.
 --   pushed    it is a system too
-use Rattle.std.proofs.Common.{◌≡◌, ℕ, ◌+◌, ◌<◌, Bool, true, true≢false, ◌&&◌, List, [], ◌∷◌, ◌++◌, length, refl, sym, ◌∙◌, ap, subst, arith, IsTrue, nat_lt}
+use Rattle.std.proofs.Common.{◌≡◌, ℕ, ◌+◌, ◌<◌, Bool, true, false, true≢false, ◌&&◌, List, [], ◌∷◌, ◌++◌, length, refl, sym, ◌∙◌, ap, subst, arith, IsTrue, nat_lt}
 use Rattle.std.specs.Prelude.{nat_le, if◌then◌else◌}
 use Rattle.std.specs.List.{list_all}
 use Rattle.std.proofs.lemmas.Bool.Decides.{nat_tests}
@@ -10,9 +10,9 @@ use Rattle.rinv_algebra.proofs.Same.{both, and_true}
 use Rattle.rinv_defs.specs.System.{System, Poly, space_count}
 use Rattle.rinv_defs.specs.SystemForm.{is_good, system_parts, IsSystem}
 
-pub taken : {X : Type 0} (b : Bool) {xs ys zs : List X} → zs ≡ (if b then xs else ys) → b ≡ true → zs ≡ xs
-taken true e is = e
-taken false e is = absurd (true≢false (sym is))
+pub taken : {X : Type 0} (b : Bool) (ys : List X) {xs zs : List X} → zs ≡ (if b then xs else ys) → b ≡ true → zs ≡ xs
+taken true ys e is = e
+taken false ys e is = absurd (true≢false (sym is))
 
 one_more : {X : Type 0} (xs : List X) (x : X) → length xs < 64 → IsTrue (nat_le (length (xs ++ x ∷ [])) 64)
 one_more xs x below = rw (length-append xs (x ∷ [])) grind (arith, nat_tests, below)
