@@ -1,5 +1,8 @@
 //! Systems, and the reduced bases of their extended ideals.
 
+ghost use Rattle.std.specs.Prelude.{IfSome};
+ghost use Rattle.rinv_defs.specs.SystemForm.{IsSystem};
+
 use rinv_buch::{Stop, Why};
 use rinv_div::Budget;
 use rinv_elim::{ElimStop, action_basis, eliminate, localise, reduce};
@@ -86,7 +89,9 @@ const OF_MOTIONS: &[Row] = &[(
 const ON_SECTION: &[Row] = &[(&[0, 1], &[(&[0, 0], "y", "1")]), (&[1, 0], &[])];
 
 // The system of a text.
-fn system_of(alloc: Global, text: &[u8]) -> Option<System> {
+fn system_of(alloc: Global, text: &[u8]) -> Option<System>
+    ensures { IfSome result (λ told. IsSystem told.system) }
+{
     if text.len() > 10_000 {
         return None;
     }
@@ -97,7 +102,9 @@ fn system_of(alloc: Global, text: &[u8]) -> Option<System> {
 }
 
 // The reduced basis of its extended ideal.
-fn basis_of(alloc: Global, system: &System) -> Option<Monic> {
+fn basis_of(alloc: Global, system: &System) -> Option<Monic>
+    requires { IsSystem system.now.system }
+{
     let mut endless = Budget::without_end();
     let Ok(basis) = action_basis(alloc, system, &mut endless) else {
         return None;
@@ -176,33 +183,47 @@ fn has_basis(alloc: Global, text: &[u8], rows: &[Row]) -> bool {
     }
 }
 
-// The system of a text, with polynomials for its section.
-fn system_on(alloc: Global, text: &[u8], section: &[&str]) -> Option<System> {
-    let mut system = system_of(alloc, text)?;
-    for k in 0..section.len() {
-        if section[k].len() > 10_000 {
-            return None;
-        }
-        let Ok(f) = read_poly(alloc, section[k], &system.space, &system.field) else {
-            return None;
-        };
-        if system.section.push(f).is_err() {
-            return None;
-        }
+// The system with the polynomial of a text in its section too.
+fn with_equation(alloc: Global, system: System, text: &str) -> Option<System>
+    requires { IsSystem system.system }
+    ensures { IfSome result (λ told. IsSystem told.system) }
+{
+    let mut system = system;
+    if text.len() > 10_000 || system.section.len() >= 64 {
+        return None;
+    }
+    let Ok(f) = read_poly(alloc, text, &system.space, &system.field) else {
+        return None;
+    };
+    if system.section.push(f).is_err() {
+        return None;
     }
     Some(system)
 }
 
 // Whether its reduced basis is this on the section.
-fn has_basis_on(alloc: Global, text: &[u8], section: &[&str], rows: &[Row]) -> bool {
-    match system_on(alloc, text, section) {
+fn has_basis_on(alloc: Global, text: &[u8], section: &str, rows: &[Row]) -> bool {
+    let Some(system) = system_of(alloc, text) else {
+        return false;
+    };
+    match with_equation(alloc, system, section) {
         Some(system) => is_basis(alloc, &system, rows),
         None => false,
     }
 }
 
+// The system of a text, with a section of two equations.
+fn system_on(alloc: Global, text: &[u8], section: (&str, &str)) -> Option<System>
+    ensures { IfSome result (λ told. IsSystem told.system) }
+{
+    let (first, second) = section;
+    let system = system_of(alloc, text)?;
+    let system = with_equation(alloc, system, first)?;
+    with_equation(alloc, system, second)
+}
+
 // Whether the section misses the orbits, by this element.
-fn misses_by(alloc: Global, text: &[u8], section: &[&str], wanted: &str) -> bool {
+fn misses_by(alloc: Global, text: &[u8], section: (&str, &str), wanted: &str) -> bool {
     let Some(system) = system_on(alloc, text, section) else {
         return false;
     };
@@ -220,7 +241,9 @@ fn misses_by(alloc: Global, text: &[u8], section: &[&str], wanted: &str) -> bool
 }
 
 // Whether the reduced basis of the system is this.
-fn is_basis(alloc: Global, system: &System, rows: &[Row]) -> bool {
+fn is_basis(alloc: Global, system: &System, rows: &[Row]) -> bool
+    requires { IsSystem system.now.system }
+{
     let Some(basis) = basis_of(alloc, system) else {
         return false;
     };
@@ -278,7 +301,7 @@ fn stopped_by(alloc: Global, text: &[u8], pairs: u32, steps: u64) -> u32 {
 #[test]
 fn cuts_orbits_by_a_section(rt: HostRuntime) {
     assert!(rt;
-        has_basis_on(rt.alloc(), TRANSLATIONS, &["x"], ON_SECTION),
+        has_basis_on(rt.alloc(), TRANSLATIONS, "x", ON_SECTION),
         "x = 0 meets each orbit once"
     );
 }
@@ -286,15 +309,15 @@ fn cuts_orbits_by_a_section(rt: HostRuntime) {
 #[test]
 fn tells_a_section_that_misses_orbits(rt: HostRuntime) {
     assert!(rt;
-        misses_by(rt.alloc(), TRANSLATIONS, &["y-1"], "y-1"),
+        misses_by(rt.alloc(), TRANSLATIONS, ("y-1", "y^2-1"), "y-1"),
         "y = 1 misses most orbits"
     );
     assert!(rt;
-        misses_by(rt.alloc(), TRANSLATIONS, &["y"], "y"),
+        misses_by(rt.alloc(), TRANSLATIONS, ("y", "0"), "y"),
         "so does y = 0"
     );
     assert!(rt;
-        misses_by(rt.alloc(), SCALINGS, &["x-1", "x-2"], "1"),
+        misses_by(rt.alloc(), SCALINGS, ("x-1", "x-2"), "1"),
         "and an empty section misses them all"
     );
 }
