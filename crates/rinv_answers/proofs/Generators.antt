@@ -1,11 +1,9 @@
 -- What follows of the pieces that are found for a system, and of a halt.
 --   complete-of        the generators are complete
 --   limits-within      a journal of a halt is within what a text may ask for
-use Rattle.std.proofs.Common.{◌≡◌, ℕ, ◌-◌, ◌^◌, ◌<◌, List, [], All, arith}
+use Rattle.std.proofs.Common.{List, arith}
 use Rattle.rinv_groebner.specs.Journal.{Entry}
-use Rattle.rinv_defs.specs.System.{System}
 use Rattle.rinv_defs.specs.SystemForm.{IsSystem}
-use Rattle.rinv_defs.specs.Invariant.{Fraction}
 use Rattle.rinv_text.specs.Told.{Told}
 use Rattle.rinv_buch.specs.declared.kinds.Why.{Why}
 use Rattle.rinv_coefficients.specs.Coefficients.{AreGenerators}
