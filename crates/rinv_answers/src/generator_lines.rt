@@ -42,14 +42,16 @@ fn write_line(
     fraction: &Frac,
     out: &mut Vec<u8>,
 ) -> Result<(), NoMemory>
-    requires { IsStored system.now.system.p (space_count system.now.system) fraction.now }
+    requires system { IsSystem system.now.system }
+    requires fraction { IsStored system.now.system.p (space_count system.now.system) fraction.now }
     ensures { OnOk result (out.new.items ≡ out.old.items ++ fraction_line system.now.system.p system.now.system.space number fraction.now) }
 {
     let head = format!(in alloc; "y{number} = ")?;
     out.extend_from_slice(head.as_bytes())?;
     let (num, den) = (field.num(fraction), field.den(fraction));
     write_fraction(alloc, num, den, &system.space, out)?;
-    out.extend_from_slice(b"\n")
+    out.extend_from_slice(b"\n")?;
+    Ok(())
 }
 
 // The last line.
