@@ -1,5 +1,8 @@
 //! Systems and the generators of their fields of invariants.
 
+ghost use Rattle.std.specs.Prelude.{IfSome};
+ghost use Rattle.rinv_defs.specs.SystemForm.{IsSystem};
+
 use rinv_frac::FracRing;
 use rinv_gens::{GenStop, Phase, Symbol, pieces};
 use rinv_laws::LawName;
@@ -45,7 +48,9 @@ const WRONG_PRODUCT: &[u8] =
     b"field 101\ngroup a, b\nspace x, y\nideal a^2+b^2-1\nunit 1, 0\nproduct a*a'+b*b', a*b'+b*a'\ninverse a, -b\naction a*x-b*y, b*x+a*y\n";
 
 // The system of a text.
-fn system_of(alloc: Global, text: &[u8]) -> Option<System> {
+fn system_of(alloc: Global, text: &[u8]) -> Option<System>
+    ensures { IfSome result (λ told. IsSystem told.system) }
+{
     if text.len() > 10_000 {
         return None;
     }
