@@ -1,0 +1,5 @@
+//! Tests of the invariance of fractions, and of the cofactors that prove it.
+#![tactic(auto)]
+
+#[cfg(test)]
+mod invariance;
