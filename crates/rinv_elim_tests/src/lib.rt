@@ -3,3 +3,5 @@
 
 #[cfg(test)]
 mod reduced;
+#[cfg(test)]
+mod systems;
