@@ -13,7 +13,7 @@ use rinv_buch::kinds::Basis;
 use rinv_buch::{Entry, Halt, Stop, Why};
 use rinv_div::Budget;
 use rinv_elim::action_basis;
-use rinv_laws::{GroupBasis, LawStop, group_basis, test_laws};
+use rinv_laws::{GroupBasis, LawStop, group_basis, laws_hold, test_laws};
 use rinv_ring::{Gf, NoMemory};
 use rinv_text::System;
 use std::alloc::Global;
@@ -68,6 +68,10 @@ fn law_stage(alloc: Global, system: &System) -> Result<(GroupBasis, Budget), Gen
     ensures stop { IfErr result (GenStopsSo system.now) }
 {
     let (group, left) = group_stage(alloc, system)?;
+    let hold = laws_hold(alloc, system, &group)?;
+    if hold {
+        return Ok((group, left));
+    }
     match test_laws(alloc, system, &group) {
         Ok(_quotients) => Ok((group, left)),
         Err(LawStop::Fault(fault)) => Err(GenStop::Law(fault)),
