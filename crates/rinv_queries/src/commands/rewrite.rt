@@ -1,0 +1,55 @@
+//! The answer to the bytes of a system with `rewrite` lines: a text and how it ends.
+
+ghost use Rattle.std.specs.Prelude.{◌<◌, ◌-◌, ◌^◌, length, IfOk, IfErr};
+ghost use Rattle.rinv_script.specs.Stored.{IsStoredScript};
+ghost use Rattle.rinv_answers.specs.Budgets.{IsLimited};
+ghost use Rattle.rinv_answers.specs.Stopped.{StopsSo};
+ghost use Rattle.rinv_queries.specs.Commands.Rewrite.{IsRewriteAnswer, IsRewritten};
+
+use crate::answering::{Page, answered, ending_of};
+use crate::known::known;
+use rinv_answers::{Ending, Stopped, complete_line, refused_line};
+use rinv_script::{Form, Script, read_script};
+use rinv_system::SystemStop;
+use std::alloc::{AllocError as NoMemory, Global};
+
+/// What is printed for the bytes of a system with `rewrite` lines, and how that ends.
+pub fn answer(alloc: Global, bytes: &[u8]) -> Result<(Vec<u8>, Ending), NoMemory>
+    requires { length bytes.now < 2 ^ 32 - 1 }
+    ensures { IfOk result (λ a. IsRewriteAnswer bytes.now a.0.items a.1) }
+{
+    let script = match read_script(alloc, bytes, Form::Rewrites) {
+        Ok(script) => script,
+        Err(SystemStop::Refused(refused)) => {
+            let text = refused_line(alloc, refused)?;
+            return Ok((text, Ending::Refused));
+        }
+        Err(SystemStop::NoMemory) => return Err(NoMemory),
+    };
+    match rewritten(alloc, &script) {
+        Ok(answer) => Ok(answer),
+        Err(Stopped::Answer(text, ending)) => Ok((text, ending)),
+        Err(Stopped::NoMemory) => Err(NoMemory),
+    }
+}
+
+// The generators, and the answer to each query.
+fn rewritten(alloc: Global, script: &Script) -> Result<(Vec<u8>, Ending), Stopped>
+    requires script { IsStoredScript script.now }
+    requires limits { IsLimited script.now.told }
+    ensures shown { IfOk result (λ a. IsRewritten script.now a.0.items a.1) }
+    ensures stop { IfErr result (StopsSo (IsRewritten script.now)) }
+{
+    let system = &script.system;
+    let known = known(alloc, system, true)?;
+    let mut head = Vec::new(alloc);
+    known.write_generators(alloc, system, &mut head)?;
+    let page = answered(alloc, system, &known, script.queries.as_slice(), true, head)?;
+    let Page {
+        mut text,
+        denied,
+        ..
+    } = page;
+    text.extend_from_slice(complete_line(system))?;
+    Ok((text, ending_of(denied)))
+}
