@@ -25,6 +25,8 @@ pub enum Keyword {
     Inverse,
     /// The action.
     Action,
+    /// The section.
+    Section,
     /// The greatest number of pairs.
     Pairs,
     /// The greatest number of steps.
@@ -60,6 +62,8 @@ fn keyword_of(word: &[u8]) -> Option<Keyword>
         Some(Keyword::Inverse)
     } else if word == b"action".as_slice() {
         Some(Keyword::Action)
+    } else if word == b"section".as_slice() {
+        Some(Keyword::Section)
     } else {
         None
     }
