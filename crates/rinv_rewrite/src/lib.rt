@@ -1,0 +1,15 @@
+//! Rational expressions of invariants in the generators.
+//!
+//! - `prepared`: the relations with symbols, made ready for division once for all fractions
+//! - `rewritten`: by them the expression of an invariant, or the rest that shows that there is none
+#![tactic(auto)]
+
+mod expression;
+mod prepared;
+mod rewriting;
+mod stop;
+
+pub use expression::Expression;
+pub use prepared::{SymbolBasis, prepared};
+pub use rewriting::rewritten;
+pub use stop::RewriteStop;
