@@ -1,1 +1,4 @@
 pub mod Limits
+pub mod Pieces
+pub mod Pages
+pub mod Endings

@@ -185,19 +185,18 @@ fn write_before(
     ensures { OnOk result (out.new.items ≡ out.old.items ++ lines_before system.now.system (fractions_of known.now) shown number (query_of query.now)) }
 {
     match query {
-        Query::Laws | Query::Invariant(_) => Ok(()),
+        Query::Laws | Query::Invariant(_) => {}
         Query::Generators => {
             write_head(alloc, "generators ", number, "\n", out)?;
-            known.write_generators(alloc, system, out)
+            known.write_generators(alloc, system, out)?;
         }
         Query::Rewrite(_) => {
-            if shown {
-                Ok(())
-            } else {
-                known.write_generators(alloc, system, out)
+            if !shown {
+                known.write_generators(alloc, system, out)?;
             }
         }
     }
+    Ok(())
 }
 
 /// How answered queries end.

@@ -13,3 +13,6 @@ mod outcome;
 mod outcomes;
 
 pub use outcome::Outcome;
+
+#[cfg(test)]
+mod tests;

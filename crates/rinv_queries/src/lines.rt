@@ -1,7 +1,6 @@
 //! The lines that are printed of queries.
 
-ghost use Rattle.std.specs.Prelude.{◌≡◌, ◌++◌, codes, decimal, length, IfOk, OnOk};
-ghost use Rattle.rinv_algebra.specs.Residue.{residue_ops};
+ghost use Rattle.std.specs.Prelude.{◌≡◌, ◌++◌, ℕ, codes, decimal, length, IfOk, OnOk};
 ghost use Rattle.rinv_defs.specs.SystemForm.{IsSystem};
 ghost use Rattle.rinv_defs.specs.Text.{poly_text, fraction_text};
 ghost use Rattle.rinv_frac.specs.Fractions.{IsPart, IsStored};
@@ -44,7 +43,7 @@ pub(crate) fn write_head(
     rest: &str,
     out: &mut Vec<u8>,
 ) -> Result<(), NoMemory>
-    ensures { OnOk result (out.new.items ≡ out.old.items ++ word.now ++ decimal number ++ rest.now) }
+    ensures { OnOk result (out.new.items ≡ out.old.items ++ (word.now ++ decimal number ++ rest.now)) }
 {
     let head = format!(in alloc; "{word}{number}{rest}")?;
     out.extend_from_slice(head.as_bytes())?;
@@ -61,7 +60,7 @@ fn write_rest(
 ) -> Result<(), NoMemory>
     requires system { IsSystem system.now.system }
     requires rest { IsPart system.now.system.p (length names.now) rest.now }
-    ensures { OnOk result (out.new.items ≡ out.old.items ++ poly_text system.now.system.p names.now rest.now ++ codes "\n") }
+    ensures { OnOk result (out.new.items ≡ out.old.items ++ (poly_text system.now.system.p names.now rest.now ++ codes "\n")) }
 {
     write_poly(alloc, rest, names, out)?;
     out.extend_from_slice(b"\n")?;
@@ -78,7 +77,7 @@ fn write_expression(
 ) -> Result<(), NoMemory>
     requires system { IsSystem system.now.system }
     requires expression { IsStored system.now.system.p (length names.now) expression.now }
-    ensures { OnOk result (out.new.items ≡ out.old.items ++ fraction_text system.now.system.p names.now expression.now ++ codes "\n") }
+    ensures { OnOk result (out.new.items ≡ out.old.items ++ (fraction_text system.now.system.p names.now expression.now ++ codes "\n")) }
 {
     write_fraction(alloc, &expression.num, &expression.den, names, out)?;
     out.extend_from_slice(b"\n")?;
@@ -100,23 +99,24 @@ pub(crate) fn write_outcome(
     ensures { OnOk result (out.new.items ≡ out.old.items ++ outcome_line system.now.system variables.now.symbols number outcome.now) }
 {
     match outcome {
-        Outcome::LawsHold => write_head(alloc, "laws ", number, " hold\n", out),
-        Outcome::GeneratorsShown => Ok(()),
-        Outcome::Invariant => write_head(alloc, "invariant ", number, " yes\n", out),
+        Outcome::LawsHold => write_head(alloc, "laws ", number, " hold\n", out)?,
+        Outcome::GeneratorsShown => {}
+        Outcome::Invariant => write_head(alloc, "invariant ", number, " yes\n", out)?,
         Outcome::NotInvariant(rest) => {
             write_head(alloc, "invariant ", number, " no rest ", out)?;
-            write_rest(alloc, system, &variables.changes, rest, out)
+            write_rest(alloc, system, &variables.changes, rest, out)?;
         }
         Outcome::Rewritten(expression) => {
             write_head(alloc, "rewrite ", number, " = ", out)?;
-            write_expression(alloc, system, &variables.symbols, expression, out)
+            write_expression(alloc, system, &variables.symbols, expression, out)?;
         }
         Outcome::NotRewritten(rest) => {
             write_head(alloc, "rewrite ", number, " not invariant rest ", out)?;
-            write_rest(alloc, system, &variables.changes, rest, out)
+            write_rest(alloc, system, &variables.changes, rest, out)?;
         }
         Outcome::Vanishing => {
-            write_head(alloc, "rewrite ", number, " vanishing denominator\n", out)
+            write_head(alloc, "rewrite ", number, " vanishing denominator\n", out)?;
         }
     }
+    Ok(())
 }
