@@ -1,5 +1,4 @@
--- From a command and bytes to the text and its ending:
---   Answers       one line a command
+-- From the bytes that a command is given to the text and its ending:
 --   Commands      what each command answers, a file a command
 --   Told          answers to the text of a system, or to its refusal
 --   Budgets       the pairs and steps that a text allows
@@ -7,7 +6,6 @@
 --   LawLines      the lines of laws, and of a line that is refused
 --   Pieces        the line of one fraction
 --   GeneratorLines    the lines of generators
-pub mod Answers
 pub mod Commands
 pub mod Told
 pub mod Budgets
