@@ -1,5 +1,4 @@
--- From a command and bytes to the text and its ending:
---   Answers       one line a command
+-- From the bytes that a command is given to the text and its ending:
 --   Commands      what each command answers, a file a command
 --   Stopped       an answer in place of what was to be found
 --   Told          answers to the text of a system, or to its refusal
@@ -8,7 +7,6 @@
 --   LawLines      the lines of laws, and of a line that is refused
 --   Pieces        the line of one fraction
 --   GeneratorLines    the lines of generators
-pub mod Answers
 pub mod Commands
 pub mod Stopped
 pub mod Told

@@ -1,5 +1,5 @@
 //! What each command answers, a file a command.
 
-pub(crate) mod check;
-pub(crate) mod generators;
-pub(crate) mod laws;
+pub mod check;
+pub mod generators;
+pub mod laws;

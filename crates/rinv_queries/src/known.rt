@@ -9,7 +9,9 @@ ghost use Rattle.rinv_script.specs.Queries.{Query, needs_generators};
 ghost use Rattle.rinv_queries.specs.Commands.Run.{AreCompleteIf, IsUnknown};
 ghost use Rattle.rinv_queries.specs.Known.{IsKnown, Suffices, fractions_of};
 
-use rinv_answers::{Stopped, generated, lawful, write_generators};
+use rinv_answers::commands::generators::generated;
+use rinv_answers::commands::laws::lawful;
+use rinv_answers::{Stopped, write_generators};
 use rinv_gens::Findings;
 use rinv_laws::GroupBasis;
 use rinv_rewrite::{SymbolBasis, prepared};

@@ -15,7 +15,7 @@ use rinv_form::{FormatStop, names_of, sizes_in, stored};
 use std::alloc::{AllocError as NoMemory, Global};
 
 /// What is printed for the bytes of a certificate, and how that ends.
-pub(crate) fn answer(alloc: Global, bytes: &[u8]) -> Result<(Vec<u8>, Ending), NoMemory>
+pub fn answer(alloc: Global, bytes: &[u8]) -> Result<(Vec<u8>, Ending), NoMemory>
     ensures { IfOk result (λ a. IsCheckAnswer bytes.now a.0.items a.1) }
 {
     let certificate = match from_json(alloc, bytes) {

@@ -20,7 +20,7 @@ use rinv_text::System;
 use std::alloc::{AllocError as NoMemory, Global};
 
 /// What is printed for the bytes of a system, and how that ends.
-pub(crate) fn answer(alloc: Global, bytes: &[u8]) -> Result<(Vec<u8>, Ending), NoMemory>
+pub fn answer(alloc: Global, bytes: &[u8]) -> Result<(Vec<u8>, Ending), NoMemory>
     requires { length bytes.now < 2 ^ 32 - 1 }
     ensures { IfOk result (λ a. IsLawsAnswer bytes.now a.0.items a.1) }
 {

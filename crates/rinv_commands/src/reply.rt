@@ -1,11 +1,11 @@
 //! The answer of a command to bytes, in one line a command.
 
 ghost use Rattle.std.specs.Prelude.{◌<◌, ◌-◌, ◌^◌, length, IfOk};
-ghost use Rattle.rinv_answers.specs.Answers.{IsAnswer};
+ghost use Rattle.rinv_commands.specs.Answers.{IsAnswer};
 
 use crate::command::Command;
-use crate::commands::{check, generators, laws};
-use crate::ending::Ending;
+use rinv_answers::Ending;
+use rinv_answers::commands::{check, generators, laws};
 use std::alloc::{AllocError as NoMemory, Global};
 
 /// The text that the command answers to these bytes, and how it ends.
