@@ -1,8 +1,9 @@
 -- The degrees that are met as an invariant is rewritten.
---   SymbolDivisionMeets        in the division of a polynomial, put in Z, by the relations with symbols
---   ValuesMeet                 in the values of the coefficients of a rest
---   ExpressingMeets            in one of these, for an invariant
---   RewritingMeets             in the test of its invariance, or in the rest
+--   InZMeets, SymbolDivisionMeets    in the division of a polynomial, put in Z, by the relations with symbols
+--   ValueMeetsAt, RestMeets          in the value of a coefficient of a rest, and in one of those from the greatest down
+--   ValuesMeet                       in one of the rest of the denominator
+--   ExpressingMeets                  in one of these, for an invariant
+--   RewritingMeets                   in the test of its invariance, or in one of these
 use Rattle.std.specs.Prelude.{◌≡◌, ◌⊎◌, ℕ, List, length, map, nat_lt, false}
 use Rattle.std.specs.Ordering.{is_lt}
 use Rattle.rinv_algebra.specs.Ring.{IsSame}
@@ -22,23 +23,35 @@ use Rattle.rinv_change.specs.Changes.{ChangeMeets}
 use Rattle.rinv_rewrite.specs.Prepared.{is_symbolic}
 use Rattle.rinv_rewrite.specs.Taken.{HasValueAt}
 
--- division of f, put in Z, by the relations over k symbols meets these degrees
-pub record SymbolDivisionMeets (p k : ℕ) (qs : List SymbolRelation) (f : Poly) (x y : ℕ) : Type 0 where
+-- division of f, put in Z, by polynomials over those in k symbols meets these degrees
+pub record InZMeets (p k : ℕ) (hs : List SymbolPoly) (f : Poly) (x y : ℕ) : Type 0 where
   pub dividend : SymbolPoly
-  pub divisors : List SymbolPoly
   pub is_dividend : IsSame (poly_ops (poly_ops (residue_ops p))) dividend (in_z p f)
-  pub are_divisors : AreSame (poly_ops (residue_ops p)) divisors (map (symbol_poly p) qs)
-  pub meets : StepsMeet (poly_ops (residue_ops p)) grevlex divisors dividend (is_symbolic p k) (polynomials_meet (residue_ops p) (λ c. nat_lt c p) never) x y
+  pub meets : StepsMeet (poly_ops (residue_ops p)) grevlex hs dividend (is_symbolic p k) (polynomials_meet (residue_ops p) (λ c. nat_lt c p) never) x y
 
--- the value of a coefficient of the rest of q does, at a monomial that is not below one whose coefficient has a value
+-- division of f, put in Z, by the relations does
+pub record SymbolDivisionMeets (p k : ℕ) (qs : List SymbolRelation) (f : Poly) (x y : ℕ) : Type 0 where
+  pub divisors : List SymbolPoly
+  pub are_divisors : AreSame (poly_ops (residue_ops p)) divisors (map (symbol_poly p) qs)
+  pub meets : InZMeets p k divisors f x y
+
+-- the value of the coefficient of a rest at a monomial that it has does
+pub record ValueMeetsAt (p : ℕ) (cs : List Fraction) (rest : SymbolPoly) (monomial : List ℕ) (x y : ℕ) : Type 0 where
+  pub coefficient : Poly
+  pub is_coefficient : IsCoefficient (poly_ops (residue_ops p)) (is_symbolic p (length cs)) rest monomial coefficient
+  pub meets : ValueMeets (residue_ops p) cs coefficient x y
+
+-- that at a monomial that is not below one whose coefficient has a value does
+pub record RestMeets (p : ℕ) (cs : List Fraction) (rest : SymbolPoly) (x y : ℕ) : Type 0 where
+  pub monomial : List ℕ
+  pub down_to : (e : List ℕ) → HasValueAt p cs rest e → is_lt (grevlex monomial e) ≡ false
+  pub meets : ValueMeetsAt p cs rest monomial x y
+
+-- and this rest is that of q
 pub record ValuesMeet (s : System) (cs : List Fraction) (qs : List SymbolRelation) (q : Poly) (x y : ℕ) : Type 0 where
   pub rest : SymbolPoly
   pub is_rest : IsRestBy s qs (in_z s.p q) rest
-  pub monomial : List ℕ
-  pub coefficient : Poly
-  pub is_coefficient : IsCoefficient (poly_ops (residue_ops s.p)) (is_symbolic s.p (length cs)) rest monomial coefficient
-  pub down_to : (e : List ℕ) → HasValueAt s.p cs rest e → is_lt (grevlex monomial e) ≡ false
-  pub meets : ValueMeets (residue_ops s.p) cs coefficient x y
+  pub meets : RestMeets s.p cs rest x y
 
 -- the two divisions do, or the values
 pub data ExpressingMeets (s : System) (cs : List Fraction) (qs : List SymbolRelation) (f : Fraction) (x y : ℕ) : Type 0 where

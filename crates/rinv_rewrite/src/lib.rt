@@ -4,10 +4,15 @@
 //! - `rewritten`: by them the expression of an invariant, or the rest that shows that there is none
 #![tactic(auto)]
 
+mod choosing;
+mod coefficients;
+mod dividing;
 mod expression;
 mod prepared;
+mod relations;
 mod rewriting;
 mod stop;
+mod symbols;
 
 pub use expression::Expression;
 pub use prepared::{SymbolBasis, prepared};

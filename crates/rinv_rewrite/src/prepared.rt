@@ -1,13 +1,16 @@
 //! The relations with symbols, made ready for division.
 
-ghost use Rattle.std.specs.Prelude.{IfOk};
+ghost use Rattle.std.specs.Prelude.{◌≡◌, IfOk};
+ghost use Rattle.rinv_defs.specs.System.{space_count};
 ghost use Rattle.rinv_defs.specs.SystemForm.{IsSystem};
 ghost use Rattle.rinv_gens.specs.Found.{ArePieces};
 ghost use Rattle.rinv_rewrite.specs.Prepared.{IsPrepared};
 
+use crate::relations::symbol_basis;
+use crate::symbols::{ZPoly, ZRing};
 use rinv_div::Divisors;
 use rinv_gens::Findings;
-use rinv_poly::{Poly, PolyRing};
+use rinv_poly::PolyRing;
 use rinv_ring::{Gf, NoMemory};
 use rinv_text::System;
 use std::alloc::Global;
@@ -16,8 +19,18 @@ use std::alloc::Global;
 #[derive(Drop)]
 pub struct SymbolBasis {
     pub(crate) symbols: u32,
-    pub(crate) polys: Vec<Poly<PolyRing<Gf>>>,
+    pub(crate) polys: Vec<ZPoly>,
     pub(crate) divisors: Divisors<PolyRing<Gf>>,
+}
+
+/// The polynomials in Z, for the space's variables, over those in so many symbols.
+pub(crate) fn z_ring(system: &System, symbols: u32) -> ZRing
+    requires { IsSystem system.now.system }
+    ensures field { result.coeffs.coeffs ≡ system.now.system.p }
+    ensures symbols { result.coeffs.vars ≡ symbols }
+    ensures vars { result.vars ≡ space_count system.now.system }
+{
+    PolyRing::new(PolyRing::new(system.field, symbols), system.space.len())
 }
 
 /// The relations that were found for a system, made ready once for all fractions.
@@ -26,5 +39,11 @@ pub fn prepared(alloc: Global, system: &System, found: &Findings) -> Result<Symb
     requires pieces { ArePieces system.now found.now }
     ensures { IfOk result (IsPrepared system.now.system found.now) }
 {
-    Err(NoMemory)
+    let count = found.fractions.len();
+    if count > u32::MAX as usize {
+        return Err(NoMemory);
+    }
+    let ring = z_ring(system, count as u32);
+    let basis = symbol_basis(&ring, alloc, &found.relations)?;
+    Ok(basis)
 }
