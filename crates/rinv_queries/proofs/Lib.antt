@@ -2,3 +2,5 @@ pub mod Limits
 pub mod Pieces
 pub mod Pages
 pub mod Endings
+pub mod FromPieces
+pub mod KnownFacts

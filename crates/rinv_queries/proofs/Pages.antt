@@ -1,13 +1,23 @@
 -- Queries that are answered one after another.
---   page-begins      none is
---   page-more        one more
---   all-more         a list and an element more, of two kinds
-use Rattle.std.proofs.Common.{◌≡◌, ℕ, suc, ◌+◌, List, [], ◌∷◌, ◌++◌, length, Bool, true, false, ◌||◌, refl, sym, ap, ap₂, ◌∙◌, arith, append_assoc, append-nil}
+--   all-more              a list and an element more, of two kinds
+--   images-more           the images of one element more
+--   images-parted         those before an element, its own, and those after
+--   images-number         how many there are
+--   any-image             a test of images
+--   image-holds           what holds of all images
+--   all-suffice           what is known is enough for all queries
+--   page-begins           no query is answered
+--   page-more             one more is
+use Rattle.std.proofs.Common.{◌≡◌, ℕ, suc, ◌+◌, ◌<◌, ◌≤◌, List, [], ◌∷◌, ◌++◌, length, map, take, drop, get_or, Bool, true, false, ◌||◌, refl, sym, ap, ap₂, ◌∙◌, arith, append_assoc, append-nil, length-take, subst, All}
 use Rattle.std.specs.List.{list_any, AllZip}
-use Rattle.std.proofs.lemmas.List.Folds.{list_any-append}
+use Rattle.std.proofs.lemmas.List.{take_more, take-append-drop, map-append, length-map, get_or-map}
+use Rattle.std.proofs.lemmas.List.Elements.{All-get_or, All-from_get_or}
+use Rattle.std.proofs.lemmas.List.Folds.{list_any-append, list_any_at}
 use Rattle.rinv_defs.specs.System.{System}
 use Rattle.rinv_defs.specs.Invariant.{Fraction}
-use Rattle.rinv_script.specs.Queries.{Query, needs_generators, need_generators}
+use Rattle.rinv_script.specs.Queries.{Query, for_laws, needs_generators, need_generators}
+use Rattle.rinv_queries.specs.declared.known.Known.{Known}
+use Rattle.rinv_queries.specs.Known.{Suffices}
 use Rattle.rinv_queries.specs.declared.answering.Page.{Page}
 use Rattle.rinv_queries.specs.declared.outcome.Outcome.{Outcome}
 use Rattle.rinv_queries.specs.Outcomes.{Answers, AreAnswered, denies}
@@ -20,6 +30,25 @@ all-more R [] [] x y so_far one = (one, tt)
 all-more R [] (b ∷ ys) x y so_far one = absurd so_far
 all-more R (a ∷ xs) [] x y so_far one = absurd so_far
 all-more R (a ∷ xs) (b ∷ ys) x y so_far one = (so_far.0, all-more R xs ys x y so_far.1 one)
+
+-- the images of one element more
+pub images-more : {A B : Type 0} (f : A → B) (xs : List A) (k : ℕ) (d : A) → k < length xs → map f (take (k + 1) xs) ≡ map f (take k xs) ++ f (get_or xs k d) ∷ []
+images-more f xs k d h = ap (map f) (take_more xs k d h) ∙ map-append f (take k xs) (get_or xs k d ∷ [])
+
+-- those before an element, its own, and those after
+pub images-parted : {A B : Type 0} (f : A → B) (xs : List A) (k : ℕ) (d : A) → k < length xs → map f xs ≡ map f (take k xs) ++ f (get_or xs k d) ∷ map f (drop (k + 1) xs)
+images-parted f xs k d h =
+    ap (map f) (sym (take-append-drop (k + 1) xs)) ∙ map-append f (take (k + 1) xs) (drop (k + 1) xs)
+    ∙ ap (λ ys. ys ++ map f (drop (k + 1) xs)) (images-more f xs k d h) ∙ append_assoc (map f (take k xs)) (f (get_or xs k d) ∷ []) (map f (drop (k + 1) xs))
+
+-- how many there are
+pub images-number : {A B : Type 0} (f : A → B) (xs : List A) (k : ℕ) → k ≤ length xs → length (map f (take k xs)) ≡ k
+images-number f xs k h = length-map (take k xs) f ∙ (let n = length-take k xs in let e : length (take k xs) ≡ k = omega (arith, n, h) in e)
+
+-- a test of images
+pub any-image : {A B : Type 0} (test : B → Bool) (f : A → B) (xs : List A) → list_any (λ x. test (f x)) xs ≡ list_any test (map f xs)
+any-image test f [] = refl
+any-image test f (x ∷ xs) = ap (λ (b : Bool). test (f x) || b) (any-image test f xs)
 
 or-false : (a : Bool) → (a || false) ≡ a
 or-false true = refl
@@ -80,3 +109,13 @@ module _ (s : System) (cs : List Fraction) where
         ∙ ap (λ (b : Bool). shown || b) (sym (any-more needs_generators qs q));
     denied = turn.denied ∙ ap (λ (b : Bool). b || denies turn.outcome) so_far.denied ∙ sym (any-more denies so_far.outcomes turn.outcome);
   }
+
+-- ---- what holds of each query
+
+-- what holds of all images holds of that of an element
+pub image-holds : {A B : Type 0} (P : B → Type 0) (f : A → B) (xs : List A) (k : ℕ) (d : A) → k < length xs → All P (map f xs) → P (f (get_or xs k d))
+image-holds P f xs k d low h = subst P (get_or-map f xs k d (f d) low) (All-get_or P (map f xs) k (f d) (let n = length-map xs f in omega (arith, n, low)) h)
+
+-- what is enough wherever generators are known or not needed is enough for queries that do not need them, or where they are known
+pub all-suffice : (known : Known) (needed : Bool) (qs : List Query) → needed ≡ need_generators qs → ((q : Query) → (needs_generators q ≡ true → needed ≡ true) → Suffices known q) → All (Suffices known) qs
+all-suffice known needed qs is enough = All-from_get_or (Suffices known) qs for_laws (λ i low. enough (get_or qs i for_laws) (λ e. is ∙ list_any_at needs_generators qs i for_laws low e))

@@ -66,8 +66,8 @@ pub(crate) fn answered(
 ) -> Result<Page, Stopped>
     requires system { IsSystem system.now.system }
     requires known { IsKnown system.now known.now }
-    requires queries { All (λ q. IsStoredQuery system.now.system.p (space_count system.now.system) (query_of q)) queries.now }
-    requires enough { All (λ q. Suffices known.now (query_of q)) queries.now }
+    requires queries { All (IsStoredQuery system.now.system.p (space_count system.now.system)) (map query_of queries.now) }
+    requires enough { All (Suffices known.now) (map query_of queries.now) }
     ensures answered { IfOk result (IsPage system.now.system (fractions_of known.now) shown text.items (map query_of queries.now)) }
     ensures stop { IfErr result (StopsSo (IsUnanswered system.now (map query_of queries.now))) }
 {
@@ -104,8 +104,8 @@ fn turns(
 ) -> Result<Page, QueryStop>
     requires system { IsSystem system.now.system }
     requires known { IsKnown system.now known.now }
-    requires queries { All (λ q. IsStoredQuery system.now.system.p (space_count system.now.system) (query_of q)) queries.now }
-    requires enough { All (λ q. Suffices known.now (query_of q)) queries.now }
+    requires queries { All (IsStoredQuery system.now.system.p (space_count system.now.system)) (map query_of queries.now) }
+    requires enough { All (Suffices known.now) (map query_of queries.now) }
     requires fresh { page.denied ≡ false }
     ensures answered { IfOk result (IsPage system.now.system (fractions_of known.now) page.shown page.text.items (map query_of queries.now)) }
     ensures stop { IfErr result (MeetsAt system.now (map query_of queries.now)) }

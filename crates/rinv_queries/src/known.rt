@@ -3,11 +3,12 @@
 ghost use Rattle.std.specs.Prelude.{◌≡◌, ◌++◌, length, Bool, true, IfOk, IfErr, OnOk};
 ghost use Rattle.rinv_defs.specs.SystemForm.{IsSystem};
 ghost use Rattle.rinv_answers.specs.GeneratorLines.{generator_lines};
+ghost use Rattle.rinv_text.specs.Told.{Told};
 ghost use Rattle.rinv_answers.specs.Budgets.{IsLimited};
 ghost use Rattle.rinv_answers.specs.Stopped.{StopsSo};
 ghost use Rattle.rinv_script.specs.Queries.{Query, needs_generators};
 ghost use Rattle.rinv_queries.specs.Commands.Run.{AreCompleteIf, IsUnknown};
-ghost use Rattle.rinv_queries.specs.Known.{IsKnown, Suffices, fractions_of};
+ghost use Rattle.rinv_queries.specs.Known.{HasGroup, IsKnown, Suffices, fractions_of};
 
 use rinv_answers::commands::generators::generated;
 use rinv_answers::commands::laws::lawful;
@@ -43,6 +44,16 @@ impl Known {
         match self {
             Known::Lawful(_) => 0,
             Known::Generated(found, _) => found.fractions.len(),
+        }
+    }
+
+    /// The basis of the group's ideal.
+    pub(crate) fn group(&self) -> &GroupBasis
+        ensures { (told : Told) → IsKnown told self.now → HasGroup told result.now }
+    {
+        match self {
+            Known::Lawful(group) => group,
+            Known::Generated(found, _) => &found.group,
         }
     }
 

@@ -27,9 +27,13 @@ pub enum Outcome {
 impl Drop for Outcome {
     fn drop(self) {
         match self {
-            Outcome::NotInvariant(_rest) | Outcome::NotRewritten(_rest) => {}
+            Outcome::LawsHold => {}
+            Outcome::GeneratorsShown => {}
+            Outcome::Invariant => {}
+            Outcome::NotInvariant(_rest) => {}
             Outcome::Rewritten(_expression) => {}
-            _ => {}
+            Outcome::NotRewritten(_rest) => {}
+            Outcome::Vanishing => {}
         }
     }
 }

@@ -1,15 +1,12 @@
 //! The outcome of one query.
 
-ghost use Rattle.std.specs.Prelude.{◌≡◌, length, IfOk, IfErr, IsFalse};
+ghost use Rattle.std.specs.Prelude.{length, IfOk, IfErr};
 ghost use Rattle.rinv_defs.specs.System.{space_count};
 ghost use Rattle.rinv_defs.specs.SystemForm.{IsSystem};
 ghost use Rattle.rinv_ring.specs.Fault.{DegreesMeet};
 ghost use Rattle.rinv_frac.specs.Fractions.{IsStored};
 ghost use Rattle.rinv_gens.specs.Found.{ArePieces};
-ghost use Rattle.rinv_laws.specs.Group.{IsGroupBasis};
-ghost use Rattle.rinv_change.specs.Changes.{ChangeMeets};
-ghost use Rattle.rinv_rewrite.specs.Prepared.{IsPrepared, symbol_relations};
-ghost use Rattle.rinv_rewrite.specs.Needed.{RewritingMeets};
+ghost use Rattle.rinv_rewrite.specs.Prepared.{IsPrepared};
 ghost use Rattle.rinv_script.specs.Queries.{whether_invariant, for_expression};
 ghost use Rattle.rinv_script.specs.Stored.{IsStoredQuery, query_of};
 ghost use Rattle.rinv_queries.specs.Outcomes.{Answers};
@@ -22,7 +19,6 @@ use crate::outcome::Outcome;
 use rinv_change::test_invariant;
 use rinv_frac::Frac;
 use rinv_gens::Findings;
-use rinv_laws::GroupBasis;
 use rinv_rewrite::{RewriteStop, SymbolBasis, rewritten};
 use rinv_ring::RingFault;
 use rinv_script::Query;
@@ -65,13 +61,10 @@ fn invariance(alloc: Global, system: &System, known: &Known, f: &Frac) -> Result
     ensures stored { IfOk result (IsStoredOutcome system.now.system (length (fractions_of known.now))) }
     ensures degree { IfErr result (DegreesMeet (QueryMeets system.now (whether_invariant f.now))) }
 {
-    let group = match known {
-        Known::Lawful(group) => group,
-        Known::Generated(found, _) => &found.group,
-    };
-    match test_invariant(alloc, system, group, f)? {
-        None => Ok(Outcome::Invariant),
-        Some(rest) => Ok(Outcome::NotInvariant(rest)),
+    match test_invariant(alloc, system, known.group(), f) {
+        Ok(None) => Ok(Outcome::Invariant),
+        Ok(Some(rest)) => Ok(Outcome::NotInvariant(rest)),
+        Err(fault) => Err(fault),
     }
 }
 
