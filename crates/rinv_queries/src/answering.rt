@@ -14,7 +14,7 @@ ghost use Rattle.rinv_queries.specs.Known.{IsKnown, Suffices, fractions_of};
 ghost use Rattle.rinv_queries.specs.Written.{AreVariables, IsTurn, IsPage};
 
 use crate::known::Known;
-use crate::lines::{Variables, variables, write_head, write_outcome};
+use crate::lines::{Variables, variables_of, write_head, write_outcome};
 use crate::needs::needs_generators;
 use crate::outcomes::outcome;
 use rinv_answers::{Cause, Ending, Phase, Stopped, incomplete_line};
@@ -110,7 +110,7 @@ fn turns(
     ensures answered { IfOk result (IsPage system.now.system (fractions_of known.now) page.shown page.text.items (map query_of queries.now)) }
     ensures stop { IfErr result (MeetsAt system.now (map query_of queries.now)) }
 {
-    let names = variables(alloc, system, known.count())?;
+    let names = variables_of(alloc, system, known.count())?;
     let mut page = page;
     'queries: for k in 0..queries.len() {
         match turn(alloc, system, known, &names, k + 1, &queries[k], &mut page) {

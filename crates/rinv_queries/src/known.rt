@@ -77,7 +77,7 @@ impl Known {
 
 /// What is known of a system: that its laws hold, or, where they are needed, its generators. Where this is not so, the stop has what is
 /// printed.
-pub(crate) fn known(alloc: Global, system: &System, needed: bool) -> Result<Known, Stopped>
+pub(crate) fn known_of(alloc: Global, system: &System, needed: bool) -> Result<Known, Stopped>
     requires system { IsSystem system.now.system }
     requires limits { IsLimited system.now }
     ensures known { IfOk result (IsKnown system.now) }

@@ -23,7 +23,11 @@ pub(crate) struct Variables {
 }
 
 /// The names for a system with so many generators.
-pub(crate) fn variables(alloc: Global, system: &System, count: usize) -> Result<Variables, NoMemory>
+pub(crate) fn variables_of(
+    alloc: Global,
+    system: &System,
+    count: usize,
+) -> Result<Variables, NoMemory>
     requires { IsSystem system.now.system }
     ensures { IfOk result (AreVariables system.now.system count) }
 {

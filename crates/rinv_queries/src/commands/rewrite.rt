@@ -7,7 +7,7 @@ ghost use Rattle.rinv_answers.specs.Stopped.{StopsSo};
 ghost use Rattle.rinv_queries.specs.Commands.Rewrite.{IsRewriteAnswer, IsRewritten};
 
 use crate::answering::{Page, answered, ending_of};
-use crate::known::known;
+use crate::known::known_of;
 use rinv_answers::{Ending, Stopped, complete_line, refused_line};
 use rinv_script::{Form, Script, read_script};
 use rinv_system::SystemStop;
@@ -41,7 +41,7 @@ fn rewritten(alloc: Global, script: &Script) -> Result<(Vec<u8>, Ending), Stoppe
     ensures stop { IfErr result (StopsSo (IsRewritten script.now)) }
 {
     let system = &script.system;
-    let known = known(alloc, system, true)?;
+    let known = known_of(alloc, system, true)?;
     let mut head = Vec::new(alloc);
     known.write_generators(alloc, system, &mut head)?;
     let page = answered(alloc, system, &known, script.queries.as_slice(), true, head)?;

@@ -8,7 +8,7 @@ ghost use Rattle.rinv_queries.specs.Lines.{last_line_of};
 ghost use Rattle.rinv_queries.specs.Commands.Run.{IsRunAnswer, IsScripted};
 
 use crate::answering::{Page, answered, ending_of};
-use crate::known::known;
+use crate::known::known_of;
 use crate::needs::need_generators;
 use rinv_answers::{Ending, Stopped, complete_line, refused_line};
 use rinv_script::{Form, Script, read_script};
@@ -46,7 +46,7 @@ fn scripted(alloc: Global, script: &Script) -> Result<(Vec<u8>, Ending), Stopped
     let system = &script.system;
     let queries = script.queries.as_slice();
     let needed = need_generators(queries);
-    let known = known(alloc, system, needed)?;
+    let known = known_of(alloc, system, needed)?;
     let page = answered(alloc, system, &known, queries, false, Vec::new(alloc))?;
     let Page {
         mut text,

@@ -3,7 +3,7 @@ use Rattle.rinv_text.specs.Names.{meet}
 use Rattle.rinv_text.specs.Told.{Told}
 use Rattle.rinv_text.proofs.SystemParts.{parts-of}
 use Rattle.rinv_system.proofs.GoodNames.{are_names-apart}
-use Rattle.rinv_queries.proofs.lines.variables.Goals as goal
+use Rattle.rinv_queries.proofs.lines.variables_of.Goals as goal
 
 pub joined-requires : goal.joined-requires
 joined-requires c =
