@@ -6,10 +6,10 @@ ghost use Rattle.rinv_algebra.specs.Polynomial.{is_zero};
 ghost use Rattle.rinv_ring.specs.Fault.{DegreesMeet};
 ghost use Rattle.rinv_frac.specs.Cancelling.{IsCancelled};
 ghost use Rattle.rinv_frac.specs.Fractions.{IsPart, IsStored};
-ghost use Rattle.rinv_rewrite.specs.Answers.{HasNoValue, IsChoice};
+ghost use Rattle.rinv_rewrite.specs.Answers.{IsChoice};
 ghost use Rattle.rinv_rewrite.specs.Needed.{RestMeets};
-ghost use Rattle.rinv_rewrite.specs.Prepared.{IsSymbolPart};
-ghost use Rattle.rinv_rewrite.specs.Taken.{IsGreatestWithValue};
+ghost use Rattle.rinv_rewrite.specs.Symbols.{IsSymbolPart};
+ghost use Rattle.rinv_rewrite.specs.Taken.{HasNoValue, IsGreatestWithValue};
 ghost use Rattle.rinv_rewrite.specs.Terms.{AreMonomialsDown};
 
 use crate::coefficients::{coefficient_at, has_value_at};

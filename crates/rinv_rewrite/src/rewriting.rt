@@ -15,7 +15,8 @@ ghost use Rattle.rinv_laws.specs.Group.{IsGroupBasis};
 ghost use Rattle.rinv_gens.specs.Found.{ArePieces};
 ghost use Rattle.rinv_rewrite.specs.Answers.{IsAnswer};
 ghost use Rattle.rinv_rewrite.specs.Needed.{ExpressingMeets};
-ghost use Rattle.rinv_rewrite.specs.Prepared.{AreTied, IsPrepared, IsReady, symbol_relations};
+ghost use Rattle.rinv_rewrite.specs.Prepared.{IsPrepared, IsReady, symbol_relations};
+ghost use Rattle.rinv_rewrite.specs.Symbols.{AreTied};
 ghost use Rattle.rinv_rewrite.specs.Taken.{DenominatorVanishes, IsTaken};
 ghost use Rattle.rinv_rewrite.specs.Stops.{RewriteStopsSo};
 

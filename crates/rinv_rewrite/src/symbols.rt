@@ -9,7 +9,7 @@ ghost use Rattle.rinv_poly.specs.Terms.{IsTerm};
 ghost use Rattle.rinv_frac.specs.Fractions.{IsPart};
 ghost use Rattle.rinv_soundness.specs.Rewriting.{in_z, symbol_of};
 ghost use Rattle.rinv_gens.specs.Symbols.{tied_of};
-ghost use Rattle.rinv_rewrite.specs.Prepared.{IsSymbolIn, IsSymbolPart, is_symbolic};
+ghost use Rattle.rinv_rewrite.specs.Symbols.{IsSymbolIn, IsSymbolPart, is_symbolic};
 ghost use Rattle.rinv_rewrite.specs.Terms.{tied_terms};
 
 use rinv_gens::Symbol;
