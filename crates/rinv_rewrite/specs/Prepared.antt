@@ -11,7 +11,7 @@ use Rattle.rinv_defs.specs.System.{System, space_count}
 use Rattle.rinv_soundness.specs.Rewriting.{SymbolRelation, symbol_poly}
 use Rattle.rinv_coefficients.specs.Ties.{TiedRelation, with_symbols}
 use Rattle.rinv_gens.specs.declared.kinds.Findings.{Findings}
-use Rattle.rinv_rewrite.specs.declared.prepared.SymbolBasis.{SymbolBasis}
+use Rattle.rinv_rewrite.specs.declared.basis.SymbolBasis.{SymbolBasis}
 use Rattle.rinv_rewrite.specs.Symbols.{IsSymbolPart, is_symbolic}
 
 -- the relations with symbols

@@ -13,7 +13,7 @@ ghost use Rattle.rinv_rewrite.specs.Needed.{InZMeets};
 ghost use Rattle.rinv_rewrite.specs.Symbols.{IsSymbolPart, is_symbolic};
 ghost use Rattle.rinv_rewrite.specs.Taken.{LeavesInZ};
 
-use crate::prepared::SymbolBasis;
+use crate::basis::SymbolBasis;
 use crate::symbols::{ZPoly, ZRing, terms_in_z, total};
 use rinv_div::remainder_wholly;
 use rinv_mono::Grevlex;

@@ -20,10 +20,10 @@ ghost use Rattle.rinv_rewrite.specs.Symbols.{AreTied};
 ghost use Rattle.rinv_rewrite.specs.Taken.{DenominatorVanishes, IsTaken};
 ghost use Rattle.rinv_rewrite.specs.Stops.{RewriteStopsSo};
 
+use crate::basis::{SymbolBasis, z_ring};
 use crate::choosing::chosen;
 use crate::dividing::rest_in_z;
 use crate::expression::Expression;
-use crate::prepared::{SymbolBasis, z_ring};
 use crate::stop::RewriteStop;
 use rinv_change::test_invariant;
 use rinv_frac::{Frac, FracRing};
