@@ -1,19 +1,12 @@
 -- What is answered for an invariant: its expression, or that its denominator vanishes.
 use Rattle.std.specs.Prelude.{ℕ, List, length, Option, Some, None}
-use Rattle.rinv_algebra.specs.Ring.{IsSame}
-use Rattle.rinv_algebra.specs.Residue.{residue_ops}
-use Rattle.rinv_algebra.specs.Polynomial.{poly_ops, coefficient}
 use Rattle.rinv_frac.specs.Fractions.{IsStored}
 use Rattle.rinv_defs.specs.System.{System, Poly}
 use Rattle.rinv_defs.specs.Invariant.{Fraction}
 use Rattle.rinv_defs.specs.Extended.{Vanishes}
-use Rattle.rinv_defs.specs.Generators.{Expression, Denotes, rational_ops, value_at}
+use Rattle.rinv_defs.specs.Generators.{Expression, Denotes}
 use Rattle.rinv_soundness.specs.Rewriting.{SymbolPoly, SymbolRelation}
-use Rattle.rinv_rewrite.specs.Taken.{IsChosen, IsTaken, DenominatorVanishes}
-
--- no coefficient of b has a value at the fractions
-abbrev pub HasNoValue : ℕ → List Fraction → SymbolPoly → Type 0
-HasNoValue p cs b = (m : List ℕ) → IsSame (rational_ops p) (value_at p cs (coefficient (poly_ops (residue_ops p)) b m)) (rational_ops p).zero
+use Rattle.rinv_rewrite.specs.Taken.{HasNoValue, IsChosen, IsTaken, DenominatorVanishes}
 
 -- an expression that is chosen from two rests, as it is stored
 pub record IsStoredChoice (p : ℕ) (cs : List Fraction) (a b : SymbolPoly) (e : Expression) : Type 0 where

@@ -20,7 +20,7 @@ use Rattle.rinv_defs.specs.Invariant.{Fraction, IsInvariant}
 use Rattle.rinv_soundness.specs.Rewriting.{SymbolPoly, SymbolRelation, in_z, symbol_poly, IsRestBy}
 use Rattle.rinv_value.specs.Values.{ValueMeets}
 use Rattle.rinv_change.specs.Changes.{ChangeMeets}
-use Rattle.rinv_rewrite.specs.Prepared.{is_symbolic}
+use Rattle.rinv_rewrite.specs.Symbols.{is_symbolic}
 use Rattle.rinv_rewrite.specs.Taken.{HasValueAt}
 
 -- division of f, put in Z, by polynomials over those in k symbols meets these degrees

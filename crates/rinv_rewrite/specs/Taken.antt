@@ -1,6 +1,7 @@
 -- The expression of an invariant P/Q: P(Z) and Q(Z) are divided by the relations with symbols, and a pair of coefficients of the rests is
 -- taken.
 --   HasValueAt             the coefficient at a monomial has a value
+--   HasNoValue             none has
 --   IsGreatestWithValue    the greatest monomial of whose coefficient this holds
 --   IsPairAt, IsChosen     the pair there, and the expression that it gives
 --   LeavesInZ              what the division of a polynomial, put in Z, leaves
@@ -23,6 +24,10 @@ use Rattle.rinv_frac.specs.Cancelling.{IsSamePair, IsCancelled}
 -- the coefficient of b at m has a value at the fractions that is not zero
 abbrev pub HasValueAt : ℕ → List Fraction → SymbolPoly → List ℕ → Type 0
 HasValueAt p cs b m = ¬ (IsSame (rational_ops p) (value_at p cs (coefficient (poly_ops (residue_ops p)) b m)) (rational_ops p).zero)
+
+-- no coefficient of b has a value at the fractions
+abbrev pub HasNoValue : ℕ → List Fraction → SymbolPoly → Type 0
+HasNoValue p cs b = (m : List ℕ) → IsSame (rational_ops p) (value_at p cs (coefficient (poly_ops (residue_ops p)) b m)) (rational_ops p).zero
 
 -- m is the greatest monomial with such a coefficient
 pub record IsGreatestWithValue (p : ℕ) (cs : List Fraction) (b : SymbolPoly) (m : List ℕ) : Type 0 where

@@ -6,10 +6,10 @@ ghost use Rattle.rinv_algebra.specs.Polynomial.{is_zero};
 ghost use Rattle.rinv_ring.specs.Fault.{DegreesMeet};
 ghost use Rattle.rinv_frac.specs.Cancelling.{IsCancelled};
 ghost use Rattle.rinv_frac.specs.Fractions.{IsPart, IsStored};
-ghost use Rattle.rinv_rewrite.specs.Answers.{HasNoValue, IsChoice};
+ghost use Rattle.rinv_rewrite.specs.Answers.{IsChoice};
 ghost use Rattle.rinv_rewrite.specs.Needed.{RestMeets};
-ghost use Rattle.rinv_rewrite.specs.Prepared.{IsSymbolPart};
-ghost use Rattle.rinv_rewrite.specs.Taken.{IsGreatestWithValue};
+ghost use Rattle.rinv_rewrite.specs.Symbols.{IsSymbolPart};
+ghost use Rattle.rinv_rewrite.specs.Taken.{HasNoValue, IsGreatestWithValue};
 ghost use Rattle.rinv_rewrite.specs.Terms.{AreMonomialsDown};
 
 use crate::coefficients::{coefficient_at, has_value_at};
@@ -27,7 +27,7 @@ fn monomials(alloc: Global, f: &ZPoly) -> Result<Vec<Mono>, NoMemory>
 {
     let terms = f.terms();
     let mut monomials = Vec::with_capacity(alloc, terms.len())?;
-    'terms: for k in 0..terms.len() {
+    'places: for k in 0..terms.len() {
         let (mono, _) = &terms[k];
         let copy = mono.copy(alloc)?;
         monomials.push(copy)?;
@@ -61,7 +61,7 @@ fn greatest_with_value(
     ensures degree { IfErr result (DegreesMeet (RestMeets ring.now.coeffs.coeffs fractions.now rest.now)) }
 {
     let monomials = monomials_down(alloc, rest)?;
-    'monomials: for k in 0..monomials.len() {
+    'places: for k in 0..monomials.len() {
         let has_value = has_value_at(ring, alloc, field, fractions, rest, &monomials[k])?;
         if has_value {
             let copy = monomials[k].copy(alloc)?;

@@ -7,7 +7,7 @@ ghost use Rattle.rinv_algebra.specs.Polynomial.{coefficient, has_monomial, poly_
 ghost use Rattle.rinv_ring.specs.Fault.{DegreesMeet};
 ghost use Rattle.rinv_frac.specs.Fractions.{IsPart, IsStored};
 ghost use Rattle.rinv_rewrite.specs.Needed.{ValueMeetsAt};
-ghost use Rattle.rinv_rewrite.specs.Prepared.{IsSymbolPart};
+ghost use Rattle.rinv_rewrite.specs.Symbols.{IsSymbolPart};
 ghost use Rattle.rinv_rewrite.specs.Taken.{HasValueAt};
 
 use crate::symbols::{ZPoly, ZRing};

@@ -10,10 +10,10 @@ ghost use Rattle.rinv_div.specs.Divisors.{AreDivisors};
 ghost use Rattle.rinv_frac.specs.Fractions.{IsPart};
 ghost use Rattle.rinv_soundness.specs.Rewriting.{in_z};
 ghost use Rattle.rinv_rewrite.specs.Needed.{InZMeets};
-ghost use Rattle.rinv_rewrite.specs.Prepared.{IsSymbolPart, is_symbolic};
+ghost use Rattle.rinv_rewrite.specs.Symbols.{IsSymbolPart, is_symbolic};
 ghost use Rattle.rinv_rewrite.specs.Taken.{LeavesInZ};
 
-use crate::prepared::SymbolBasis;
+use crate::basis::SymbolBasis;
 use crate::symbols::{ZPoly, ZRing, terms_in_z, total};
 use rinv_div::remainder_wholly;
 use rinv_mono::Grevlex;

@@ -4,17 +4,17 @@
 //! - `rewritten`: by them the expression of an invariant, or the rest that shows that there is none
 #![tactic(auto)]
 
+mod basis;
 mod choosing;
 mod coefficients;
 mod dividing;
 mod expression;
-mod prepared;
 mod relations;
 mod rewriting;
 mod stop;
 mod symbols;
 
+pub use basis::{SymbolBasis, prepared};
 pub use expression::Expression;
-pub use prepared::{SymbolBasis, prepared};
 pub use rewriting::rewritten;
 pub use stop::RewriteStop;

@@ -6,11 +6,10 @@ ghost use Rattle.rinv_algebra.specs.Residue.{residue_ops};
 ghost use Rattle.rinv_algebra.specs.Polynomial.{poly_ops};
 ghost use Rattle.rinv_soundness.specs.Rewriting.{symbol_poly};
 ghost use Rattle.rinv_coefficients.specs.Ties.{with_symbols};
-ghost use Rattle.rinv_gens.specs.Symbols.{tied_of};
-ghost use Rattle.rinv_rewrite.specs.Prepared.{IsReady, IsSymbolIn, IsSymbolPart, IsSymbolRelation};
-ghost use Rattle.rinv_rewrite.specs.Terms.{tied_terms};
+ghost use Rattle.rinv_rewrite.specs.Prepared.{IsReady};
+ghost use Rattle.rinv_rewrite.specs.Symbols.{IsSymbolPart, IsSymbolRelation};
 
-use crate::prepared::SymbolBasis;
+use crate::basis::SymbolBasis;
 use crate::symbols::{ZPoly, ZRing, tail_terms, total};
 use rinv_div::Divisors;
 use rinv_gens::Relation;

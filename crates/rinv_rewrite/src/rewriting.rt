@@ -15,14 +15,15 @@ ghost use Rattle.rinv_laws.specs.Group.{IsGroupBasis};
 ghost use Rattle.rinv_gens.specs.Found.{ArePieces};
 ghost use Rattle.rinv_rewrite.specs.Answers.{IsAnswer};
 ghost use Rattle.rinv_rewrite.specs.Needed.{ExpressingMeets};
-ghost use Rattle.rinv_rewrite.specs.Prepared.{AreTied, IsPrepared, IsReady, symbol_relations};
+ghost use Rattle.rinv_rewrite.specs.Prepared.{IsPrepared, IsReady, symbol_relations};
+ghost use Rattle.rinv_rewrite.specs.Symbols.{AreTied};
 ghost use Rattle.rinv_rewrite.specs.Taken.{DenominatorVanishes, IsTaken};
 ghost use Rattle.rinv_rewrite.specs.Stops.{RewriteStopsSo};
 
+use crate::basis::{SymbolBasis, z_ring};
 use crate::choosing::chosen;
 use crate::dividing::rest_in_z;
 use crate::expression::Expression;
-use crate::prepared::{SymbolBasis, z_ring};
 use crate::stop::RewriteStop;
 use rinv_change::test_invariant;
 use rinv_frac::{Frac, FracRing};

@@ -9,8 +9,7 @@ ghost use Rattle.rinv_poly.specs.Terms.{IsTerm};
 ghost use Rattle.rinv_frac.specs.Fractions.{IsPart};
 ghost use Rattle.rinv_soundness.specs.Rewriting.{in_z, symbol_of};
 ghost use Rattle.rinv_gens.specs.Symbols.{tied_of};
-ghost use Rattle.rinv_rewrite.specs.Prepared.{IsSymbolIn, IsSymbolPart, is_symbolic};
-ghost use Rattle.rinv_rewrite.specs.Terms.{tied_terms};
+ghost use Rattle.rinv_rewrite.specs.Symbols.{IsSymbolIn, IsSymbolPart, is_symbolic};
 
 use rinv_gens::Symbol;
 use rinv_mono::Mono;
@@ -50,10 +49,10 @@ pub(crate) fn tail_terms(
     tail: &[(Mono, Symbol)],
 ) -> Result<Vec<(Mono, KPoly)>, NoMemory>
     requires { All (λ t. IsSymbolIn ring.now.coeffs.coeffs ring.now.coeffs.vars (tied_of t.1)) tail.now }
-    ensures { IfOk result (λ v. AreWorkedOut (poly_ops (residue_ops ring.now.coeffs.coeffs)) (is_symbolic ring.now.coeffs.coeffs ring.now.coeffs.vars) (tied_terms ring.now.coeffs.coeffs (map (λ t. (t.0, tied_of t.1)) tail.now)) v.items) }
+    ensures { IfOk result (λ v. AreWorkedOut (poly_ops (residue_ops ring.now.coeffs.coeffs)) (is_symbolic ring.now.coeffs.coeffs ring.now.coeffs.vars) (map (λ t. (t.0, symbol_of ring.now.coeffs.coeffs (tied_of t.1))) tail.now) v.items) }
 {
     let mut terms = Vec::with_capacity(alloc, tail.len())?;
-    'terms: for k in 0..tail.len() {
+    'places: for k in 0..tail.len() {
         let (mono, tied) = &tail[k];
         let coefficient = symbol(ring.coeffs(), alloc, *tied)?;
         let mono = mono.copy(alloc)?;
@@ -73,7 +72,7 @@ pub(crate) fn terms_in_z(
 {
     let terms = f.terms();
     let mut out = Vec::with_capacity(alloc, terms.len())?;
-    'terms: for k in 0..terms.len() {
+    'places: for k in 0..terms.len() {
         let (mono, c) = &terms[k];
         let coefficient = ring.coeffs().constant(alloc, *c)?;
         let mono = mono.copy(alloc)?;
