@@ -1,19 +1,26 @@
 -- How the answers to scripts end.
+--   stops-weaker       a stop says what its text says
 --   rewritten-of, scripted-of          what is shown is an answer, whatever it denies
 --   unfound-rewritten .. unanswered-scripted    and so is what stands in its place
-use Rattle.std.proofs.Common.{◌≡◌, ℕ, List, Bool, true, false, refl, sym, subst, ◌∙◌, inl, inr}
+use Rattle.std.proofs.Common.{ℕ, List, Bool, true, false, inl, inr}
 use Rattle.std.specs.Prelude.{if◌then◌else◌}
-use Rattle.std.specs.List.{list_any}
 use Rattle.rinv_script.specs.Queries.{Query, Script, need_generators}
 use Rattle.rinv_text.specs.Told.{Told}
 use Rattle.rinv_answers.specs.declared.ending.Ending.{Ending}
 use Rattle.rinv_answers.specs.declared.ending.Ending.TheVariants.{Done, Denied, Refused, Incomplete}
+use Rattle.rinv_answers.specs.declared.stopped.Stopped.{Stopped}
+use Rattle.rinv_answers.specs.declared.stopped.Stopped.TheVariants.{Answer, NoMemory}
+use Rattle.rinv_answers.specs.Stopped.{StopsSo}
 use Rattle.rinv_answers.specs.Commands.Laws.{IsUnlawful}
 use Rattle.rinv_answers.specs.Commands.Generators.{IsUnfound}
-use Rattle.rinv_queries.specs.Outcomes.{denies}
 use Rattle.rinv_queries.specs.Cuts.{IsUnanswered}
 use Rattle.rinv_queries.specs.Commands.Rewrite.{IsRewritten, ShowsExpressions}
 use Rattle.rinv_queries.specs.Commands.Run.{IsScripted, AnswersQueries, IsUnknown}
+
+-- a stop says what its text says
+pub stops-weaker : (P Q : List ℕ → Ending → Type 0) → ((text : List ℕ) (ending : Ending) → P text ending → Q text ending) → (s : Stopped) → StopsSo P s → StopsSo Q s
+stops-weaker P Q weaker (Answer text ending) h = weaker text.items ending h
+stops-weaker P Q weaker NoMemory h = tt
 
 -- ---- rewrite
 

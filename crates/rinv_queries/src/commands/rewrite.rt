@@ -1,16 +1,18 @@
 //! The answer to the bytes of a system with `rewrite` lines: a text and how it ends.
 
-ghost use Rattle.std.specs.Prelude.{◌<◌, ◌-◌, ◌^◌, length, IfOk, IfErr};
-ghost use Rattle.rinv_script.specs.Stored.{IsStoredScript};
+ghost use Rattle.std.specs.Prelude.{◌<◌, ◌-◌, ◌^◌, length, map, IfOk, IfErr};
+ghost use Rattle.rinv_script.specs.Stored.{IsStoredScript, query_of};
 ghost use Rattle.rinv_answers.specs.Budgets.{IsLimited};
 ghost use Rattle.rinv_answers.specs.Stopped.{StopsSo};
+ghost use Rattle.rinv_queries.specs.Commands.Script.{asking};
 ghost use Rattle.rinv_queries.specs.Commands.Rewrite.{IsRewriteAnswer, IsRewritten};
 
 use crate::answering::{Page, answered, ending_of};
 use crate::known::known_of;
 use rinv_answers::{Ending, Stopped, complete_line, refused_line};
-use rinv_script::{Form, Script, read_script};
+use rinv_script::{Form, Query, Script, read_script};
 use rinv_system::SystemStop;
+use rinv_text::System;
 use std::alloc::{AllocError as NoMemory, Global};
 
 /// What is printed for the bytes of a system with `rewrite` lines, and how that ends.
@@ -26,7 +28,17 @@ pub fn answer(alloc: Global, bytes: &[u8]) -> Result<(Vec<u8>, Ending), NoMemory
         }
         Err(SystemStop::NoMemory) => return Err(NoMemory),
     };
-    match rewritten(alloc, &script) {
+    let answer = settled(alloc, &script)?;
+    Ok(answer)
+}
+
+// The answer, or what stands in its place.
+fn settled(alloc: Global, script: &Script) -> Result<(Vec<u8>, Ending), NoMemory>
+    requires script { IsStoredScript script.now }
+    requires limits { IsLimited script.now.told }
+    ensures { IfOk result (λ a. IsRewritten script.now a.0.items a.1) }
+{
+    match rewritten(alloc, &script.system, script.queries.as_slice()) {
         Ok(answer) => Ok(answer),
         Err(Stopped::Answer(text, ending)) => Ok((text, ending)),
         Err(Stopped::NoMemory) => Err(NoMemory),
@@ -34,17 +46,20 @@ pub fn answer(alloc: Global, bytes: &[u8]) -> Result<(Vec<u8>, Ending), NoMemory
 }
 
 // The generators, and the answer to each query.
-fn rewritten(alloc: Global, script: &Script) -> Result<(Vec<u8>, Ending), Stopped>
-    requires script { IsStoredScript script.now }
-    requires limits { IsLimited script.now.told }
-    ensures shown { IfOk result (λ a. IsRewritten script.now a.0.items a.1) }
-    ensures stop { IfErr result (StopsSo (IsRewritten script.now)) }
+fn rewritten(
+    alloc: Global,
+    system: &System,
+    queries: &[Query],
+) -> Result<(Vec<u8>, Ending), Stopped>
+    requires script { IsStoredScript (asking system.now (map query_of queries.now)) }
+    requires limits { IsLimited system.now }
+    ensures shown { IfOk result (λ a. IsRewritten (asking system.now (map query_of queries.now)) a.0.items a.1) }
+    ensures stop { IfErr result (StopsSo (IsRewritten (asking system.now (map query_of queries.now)))) }
 {
-    let system = &script.system;
     let known = known_of(alloc, system, true)?;
     let mut head = Vec::new(alloc);
     known.write_generators(alloc, system, &mut head)?;
-    let page = answered(alloc, system, &known, script.queries.as_slice(), true, head)?;
+    let page = answered(alloc, system, &known, queries, true, head)?;
     let Page {
         mut text,
         denied,

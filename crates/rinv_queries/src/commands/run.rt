@@ -1,17 +1,18 @@
 //! The answer to the bytes of a script: a text and how it ends.
 
-ghost use Rattle.std.specs.Prelude.{◌≡◌, ◌<◌, ◌-◌, ◌^◌, length, IfOk, IfErr};
-ghost use Rattle.rinv_script.specs.Stored.{IsStoredScript};
+ghost use Rattle.std.specs.Prelude.{◌≡◌, ◌<◌, ◌-◌, ◌^◌, length, map, IfOk, IfErr};
+ghost use Rattle.rinv_script.specs.Stored.{IsStoredScript, query_of};
 ghost use Rattle.rinv_answers.specs.Budgets.{IsLimited};
 ghost use Rattle.rinv_answers.specs.Stopped.{StopsSo};
 ghost use Rattle.rinv_queries.specs.Lines.{last_line_of};
+ghost use Rattle.rinv_queries.specs.Commands.Script.{asking};
 ghost use Rattle.rinv_queries.specs.Commands.Run.{IsRunAnswer, IsScripted};
 
 use crate::answering::{Page, answered, ending_of};
 use crate::known::known_of;
 use crate::needs::need_generators;
 use rinv_answers::{Ending, Stopped, complete_line, refused_line};
-use rinv_script::{Form, Script, read_script};
+use rinv_script::{Form, Query, Script, read_script};
 use rinv_system::SystemStop;
 use rinv_text::System;
 use std::alloc::{AllocError as NoMemory, Global};
@@ -29,7 +30,17 @@ pub fn answer(alloc: Global, bytes: &[u8]) -> Result<(Vec<u8>, Ending), NoMemory
         }
         Err(SystemStop::NoMemory) => return Err(NoMemory),
     };
-    match scripted(alloc, &script) {
+    let answer = settled(alloc, &script)?;
+    Ok(answer)
+}
+
+// The answer, or what stands in its place.
+fn settled(alloc: Global, script: &Script) -> Result<(Vec<u8>, Ending), NoMemory>
+    requires script { IsStoredScript script.now }
+    requires limits { IsLimited script.now.told }
+    ensures { IfOk result (λ a. IsScripted script.now a.0.items a.1) }
+{
+    match scripted(alloc, &script.system, script.queries.as_slice()) {
         Ok(answer) => Ok(answer),
         Err(Stopped::Answer(text, ending)) => Ok((text, ending)),
         Err(Stopped::NoMemory) => Err(NoMemory),
@@ -37,14 +48,12 @@ pub fn answer(alloc: Global, bytes: &[u8]) -> Result<(Vec<u8>, Ending), NoMemory
 }
 
 // The answer to each query. Generators are found only where one of them needs these.
-fn scripted(alloc: Global, script: &Script) -> Result<(Vec<u8>, Ending), Stopped>
-    requires script { IsStoredScript script.now }
-    requires limits { IsLimited script.now.told }
-    ensures shown { IfOk result (λ a. IsScripted script.now a.0.items a.1) }
-    ensures stop { IfErr result (StopsSo (IsScripted script.now)) }
+fn scripted(alloc: Global, system: &System, queries: &[Query]) -> Result<(Vec<u8>, Ending), Stopped>
+    requires script { IsStoredScript (asking system.now (map query_of queries.now)) }
+    requires limits { IsLimited system.now }
+    ensures shown { IfOk result (λ a. IsScripted (asking system.now (map query_of queries.now)) a.0.items a.1) }
+    ensures stop { IfErr result (StopsSo (IsScripted (asking system.now (map query_of queries.now)))) }
 {
-    let system = &script.system;
-    let queries = script.queries.as_slice();
     let needed = need_generators(queries);
     let known = known_of(alloc, system, needed)?;
     let page = answered(alloc, system, &known, queries, false, Vec::new(alloc))?;
