@@ -2,7 +2,7 @@
 --   script-limited
 use Rattle.std.proofs.Common.{◌≡◌, ℕ, List, sym, subst}
 use Rattle.rinv_text.specs.Told.{Told}
-use Rattle.rinv_system.specs.LineTexts as lines
+use Rattle.rinv_system.specs.LineTexts.{AreTaken}
 use Rattle.rinv_system.specs.Texts.{told_by}
 use Rattle.rinv_script.specs.declared.form.Form.{Form}
 use Rattle.rinv_script.specs.declared.words.ScriptWord.{ScriptWord}
@@ -22,9 +22,9 @@ script-line-low line next h (IsScriptLineTaken.empty e) = h
 script-line-low line next h (IsScriptLineTaken.of_system some first taken) = line-low line _ h taken
 script-line-low line next h (IsScriptLineTaken.of_script some none head whole taken) = rest-low _ _ _ h taken
 
-script-lines-low : {form : Form} {ls : List (List ℕ)} {d : ScriptDraft} → lines.AreTaken IsScriptLineTaken (blank_script form) ls d → AreLow d.system
-script-lines-low lines.AreTaken.none = blank-low
-script-lines-low (lines.AreTaken.one_more line before taken) = script-line-low line _ (script-lines-low before) taken
+script-lines-low : {form : Form} {ls : List (List ℕ)} {d : ScriptDraft} → AreTaken IsScriptLineTaken (blank_script form) ls d → AreLow d.system
+script-lines-low AreTaken.none = blank-low
+script-lines-low (AreTaken.one_more line before taken) = script-line-low line _ (script-lines-low before) taken
 
 pub script-limited : (form : Form) (bytes : List ℕ) (script : Script) → IsScriptText form bytes script → IsLimited script.told
 script-limited form bytes script h = subst (λ (s : Script). IsLimited s.told) (sym h.is) (low-limited h.draft.system (script-lines-low h.is_text.taken))

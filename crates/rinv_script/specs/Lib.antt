@@ -3,3 +3,4 @@ pub mod Words
 pub mod Scripts
 pub mod ScriptTexts
 pub mod Stored
+pub mod Kept

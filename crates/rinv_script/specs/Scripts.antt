@@ -1,9 +1,10 @@
 -- What the lines of a script told so far, and what follows the word of a script line.
-use Rattle.std.specs.Prelude.{◌≡◌, ℕ, ◌+◌, ◌≤◌, List, [], ◌∷◌, ◌++◌, length, drop, map, Bool, not, ◌||◌, ◌==◌, nat_lt, IsTrue, IsFalse}
+use Rattle.std.specs.Prelude.{◌≡◌, ℕ, ◌+◌, List, [], ◌∷◌, ◌++◌, length, drop, map, Bool, not, ◌||◌, ◌==◌, nat_lt, nat_le, if◌then◌else◌, IsTrue, Option, Some, None}
 use Rattle.std.specs.List.{list_any, take_while, position_or_len}
 use Rattle.rinv_algebra.specs.Fraction.{Fraction}
 use Rattle.rinv_frac.specs.Fractions.{IsStored}
 use Rattle.rinv_text.specs.declared.fault.TextFault.{TextFault}
+use Rattle.rinv_text.specs.declared.fault.TextCode.{TextCode}
 use Rattle.rinv_text.specs.declared.fault.TextCode.TheVariants.{Expression, Name, Limit}
 use Rattle.rinv_text.specs.declared.formal.Formal.{Formal}
 use Rattle.rinv_text.specs.Tokens.{fraction_tokens}
@@ -60,10 +61,26 @@ pub record IsDefinition (rest : List ℕ) : Type 0 where
   pub name : IsTrue (is_name_word (defined_name rest))
   pub value : IsFractionExpression (defined_value rest)
 
+-- ---- refusals
+
+-- in turn: by the grammar, by a code that comes behind it, where there is one, and by a fault
+pub data IsRefusedInTurn (IsWellFormed : Type 0) (next : Option TextCode) (HasFault : TextFault → Type 0) : Code → Type 0 where
+  by_grammar : ¬ IsWellFormed → IsRefusedInTurn IsWellFormed next HasFault (Text Expression)
+  by_code : {code : TextCode} → IsWellFormed → next ≡ Some code → IsRefusedInTurn IsWellFormed next HasFault (Text code)
+  by_fault : {fault : TextFault} → IsWellFormed → next ≡ None → HasFault fault → IsRefusedInTurn IsWellFormed next HasFault (Text fault.code)
+
 module _ (d : ScriptDraft) where
   -- the names that a new one may not be
   abbrev pub given_names : List (List ℕ)
   given_names = group_names d.system ++ space_names d.system ++ map (λ a. a.name) d.defs
+
+  -- how a new name is refused
+  abbrev pub name_fault : List ℕ → Option TextCode
+  name_fault name = if is_new_name given_names name then None else Some Name
+
+  -- how one query more is refused
+  abbrev pub query_fault : Option TextCode
+  query_fault = if nat_le max_queries (length d.queries) then Some Limit else None
 
   -- a fraction in its stored form that the text denotes, and its formal numbers
   pub record IsFraction (text : List ℕ) (f : Fraction ℕ) (formal : Formal) : Type 0 where
@@ -74,21 +91,16 @@ module _ (d : ScriptDraft) where
   abbrev pub IsFault : List ℕ → TextFault → Type 0
   IsFault text fault = IsRefusedFraction (modulus d.system) (space_names d.system) d.defs text fault
 
-  -- the rest of a script line is refused: by the grammar, by the number of queries, and then from its left to its right
+  -- the rest of a script line is refused: in a definition the name comes behind the grammar, in a query their number
   pub data IsScriptRestRefused (rest : List ℕ) : ScriptWord → Code → Type 0 where
-    no_definition : ¬ (IsDefinition rest) → IsScriptRestRefused rest Def (Text Expression)
-    old_name : IsDefinition rest → IsFalse (is_new_name given_names (defined_name rest)) → IsScriptRestRefused rest Def (Text Name)
-    value_fault : {fault : TextFault} → IsDefinition rest → IsTrue (is_new_name given_names (defined_name rest)) → IsFault (defined_value rest) fault → IsScriptRestRefused rest Def (Text fault.code)
-    not_alone : {w : ScriptWord} {q : Query} → AsksAlone w q → ¬ (rest ≡ []) → IsScriptRestRefused rest w (Text Expression)
-    many_alone : {w : ScriptWord} {q : Query} → AsksAlone w q → rest ≡ [] → max_queries ≤ length d.queries → IsScriptRestRefused rest w (Text Limit)
-    no_fraction : {w : ScriptWord} {ask : Fraction ℕ → Query} → AsksOf w ask → ¬ (IsFractionExpression rest) → IsScriptRestRefused rest w (Text Expression)
-    many_fractions : {w : ScriptWord} {ask : Fraction ℕ → Query} → AsksOf w ask → IsFractionExpression rest → max_queries ≤ length d.queries → IsScriptRestRefused rest w (Text Limit)
-    fraction_fault : {w : ScriptWord} {ask : Fraction ℕ → Query} {fault : TextFault} → AsksOf w ask → IsFractionExpression rest → length d.queries + 1 ≤ max_queries → IsFault rest fault → IsScriptRestRefused rest w (Text fault.code)
+    no_definition : {code : Code} → IsRefusedInTurn (IsDefinition rest) (name_fault (defined_name rest)) (IsFault (defined_value rest)) code → IsScriptRestRefused rest Def code
+    no_word : {w : ScriptWord} {q : Query} {code : Code} → AsksAlone w q → IsRefusedInTurn (rest ≡ []) query_fault (λ _. ⊥) code → IsScriptRestRefused rest w code
+    no_fraction : {w : ScriptWord} {ask : Fraction ℕ → Query} {code : Code} → AsksOf w ask → IsRefusedInTurn (IsFractionExpression rest) query_fault (IsFault rest) code → IsScriptRestRefused rest w code
 
   -- the rest of a script line is not refused, and tells this
   pub data IsScriptRestTaken (rest : List ℕ) : ScriptWord → ScriptDraft → Type 0 where
-    a_definition : (f : Fraction ℕ) (formal : Formal) → IsDefinition rest → IsTrue (is_new_name given_names (defined_name rest)) → IsFraction (defined_value rest) f formal
+    a_definition : (f : Fraction ℕ) (formal : Formal) → IsDefinition rest → name_fault (defined_name rest) ≡ None → IsFraction (defined_value rest) f formal
         → IsScriptRestTaken rest Def (record d { defs = d.defs ++ record { name = defined_name rest; value = f; formal = formal } ∷ [] })
-    a_word : {w : ScriptWord} {q : Query} → AsksAlone w q → rest ≡ [] → length d.queries + 1 ≤ max_queries → IsScriptRestTaken rest w (record d { queries = d.queries ++ q ∷ [] })
-    a_fraction : {w : ScriptWord} {ask : Fraction ℕ → Query} (f : Fraction ℕ) (formal : Formal) → AsksOf w ask → length d.queries + 1 ≤ max_queries → IsFraction rest f formal
+    a_word : {w : ScriptWord} {q : Query} → AsksAlone w q → rest ≡ [] → query_fault ≡ None → IsScriptRestTaken rest w (record d { queries = d.queries ++ q ∷ [] })
+    a_fraction : {w : ScriptWord} {ask : Fraction ℕ → Query} (f : Fraction ℕ) (formal : Formal) → AsksOf w ask → query_fault ≡ None → IsFraction rest f formal
         → IsScriptRestTaken rest w (record d { queries = d.queries ++ ask f ∷ [] })

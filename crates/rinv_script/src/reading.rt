@@ -5,8 +5,9 @@ ghost use Rattle.rinv_system.specs.Stops.{OnRefusal};
 ghost use Rattle.rinv_script.specs.ScriptTexts.{IsScriptText, IsRefusedScript};
 ghost use Rattle.rinv_script.specs.Stored.{IsStoredScript};
 
+use crate::draft::ScriptDraft;
 use crate::form::{Form, Script};
-use rinv_system::SystemStop;
+use rinv_system::{SystemStop, finished, read_text};
 use std::alloc::Global;
 
 /// The script that a text of fewer than 2^32 - 1 bytes denotes, in this form; or the first line that is refused, and why.
@@ -16,6 +17,10 @@ pub fn read_script(alloc: Global, bytes: &[u8], form: Form) -> Result<Script, Sy
     ensures stored { IfOk result IsStoredScript }
     ensures fault { IfErr result (OnRefusal (IsRefusedScript form bytes.now)) }
 {
-    // stands in for the reader
-    Err(SystemStop::NoMemory)
+    let draft = read_text(alloc, ScriptDraft::blank(alloc, form), bytes)?;
+    let (system, queries) = draft.into_parts();
+    match finished(alloc, system) {
+        Some(system) => Ok(Script { system, queries }),
+        None => unreachable!(),
+    }
 }

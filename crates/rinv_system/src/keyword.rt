@@ -33,8 +33,8 @@ pub enum Keyword {
     Steps,
 }
 
-// The first word of a line, and what follows it.
-fn split_word(line: &[u8]) -> (&[u8], &[u8])
+/// The first word of a line, and what follows it.
+pub fn split_word(line: &[u8]) -> (&[u8], &[u8])
     ensures word { result.0.now ≡ word_of line.now }
     ensures rest { result.1.now ≡ rest_of line.now }
 {

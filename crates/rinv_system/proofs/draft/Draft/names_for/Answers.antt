@@ -10,5 +10,5 @@ returns-in_default-keyword c =
     let group : group_names c.args.self.now ≡ c.in-Some.group = ap group_names (sym c.self.view_is) ∙ ap (λ o. unwrap_or o []) c.in-Some.is in
     let kind = c.in_default-keyword in
     IfOk-weaker _ (λ names. names ≡ copies 1 c.in-Some.group) (λ names. names ≡ names_for c.args.self.now c.args.keyword)
-    (λ names e. e ∙ ap (copies 1) (sym group) ∙ sym (names_for-others c.args.self.now c.args.keyword kind.not-Unit kind.not-Product kind.not-Action))
+    (λ names e. e ∙ ap (copies 1) (sym group) ∙ sym (names_for-others c.args.self.now c.args.keyword kind.not-Unit kind.not-Product kind.not-Action kind.not-Section))
     c.copies-in_default-keyword.ensures
