@@ -9,3 +9,4 @@ pub mod CommonFactors
 pub mod VanishingRests
 pub mod Choices
 pub mod ExpressingFaults
+pub mod AnswerClauses
