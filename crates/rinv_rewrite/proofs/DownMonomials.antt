@@ -4,13 +4,14 @@
 --   not_below            a monomial whose coefficient has a value is not above one to which all were passed
 --   greatest-at, none-left    the first with a value, and no more monomials
 --   in-rest              its monomials are those of the rest's terms
-use Rattle.std.proofs.Common.{◌≡◌, ◌<◌, ◌≤◌, ◌+◌, ℕ, Bool, true, false, not, List, [], length, get_or, map, inl, inr, refl, sym, ◌∙◌, ap, subst, arith, true≢false}
+use Rattle.std.proofs.Common.{◌≡◌, ◌<◌, ◌≤◌, ◌+◌, ℕ, Bool, true, false, not, List, [], ◌∷◌, ◌++◌, length, get_or, take, map, inl, inr, refl, sym, ◌∙◌, ap, ap₂, subst, arith, true≢false}
 use Rattle.std.specs.Prelude.{Contains, IsTrue}
+use Rattle.std.proofs.lemmas.Cmp.{alike_right, tied_itself}
 use Rattle.std.specs.Ordering.{is_ge, is_lt}
 use Rattle.std.specs.declared.cmp.Ordering.{Ordering}
 use Rattle.std.specs.declared.cmp.Ordering.TheVariants.{Less, Equal, Greater}
 use Rattle.std.proofs.lemmas.Bool.{cases_Bool, cases_order, cases_lt}
-use Rattle.std.proofs.lemmas.List.{get_or-map, length-map, get_or_default}
+use Rattle.std.proofs.lemmas.List.{get_or-map, length-map, get_or_default, take_more}
 use Rattle.std.proofs.lemmas.List.Elements.{Contains-get_or}
 use Rattle.std.proofs.lemmas.List.MinMax.{ranks_by, IsStrictWeakOrder-flip}
 use Rattle.std.proofs.lemmas.List.Sorted.{sorted_far, Contains-permutation, IsPermutation-sym}
@@ -45,6 +46,15 @@ not_less : (x : Ordering) → is_lt x ≡ false → IsTrue (is_ge x)
 not_less Less e = absurd (true≢false e)
 not_less Equal e = refl
 not_less Greater e = refl
+
+-- the monomial of one term more
+pub monomials-more : (f : SymbolPoly) (k : ℕ) (t : Term Poly) (ms : List (List ℕ)) (m : List ℕ) → k < length f → t ≡ get_or f k t → m ≡ t.0 → ms ≡ map (λ (t : Term Poly). t.0) (take k f) → ms ++ m ∷ [] ≡ map (λ (t : Term Poly). t.0) (take (k + 1) f)
+monomials-more f k t ms m inside is mono so_far =
+    ap₂ (λ (xs : List (List ℕ)) x. xs ++ x ∷ []) so_far mono ∙ sym (appended (take k f)) ∙ ap (map (λ (t : Term Poly). t.0)) (sym (take_more f k t inside ∙ ap (λ u. take k f ++ u ∷ []) (sym is)))
+  where
+    appended : (g : SymbolPoly) → map (λ (t : Term Poly). t.0) (g ++ t ∷ []) ≡ map (λ (t : Term Poly). t.0) g ++ t.0 ∷ []
+    appended [] = refl
+    appended (u ∷ g) = ap (λ (xs : List (List ℕ)). u.0 ∷ xs) (appended g)
 
 module _ (p : ℕ) (cs : List Fraction) (rest : SymbolPoly) where
   -- at the monomials before this place no coefficient has a value
