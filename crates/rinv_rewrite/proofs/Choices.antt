@@ -3,7 +3,7 @@
 --   nothing-answer       where nothing is chosen, the denominator vanishes
 --   choice-answer        what is chosen is the expression
 --   answered             both
-use Rattle.std.proofs.Common.{◌≡◌, ℕ, true, not, List, [], ◌∷◌, length, map, All, IsTrue, ap}
+use Rattle.std.proofs.Common.{◌≡◌, ℕ, true, List, [], ◌∷◌, length, map, All, IsTrue}
 use Rattle.std.specs.Prelude.{Option, Some, None}
 use Rattle.std.proofs.lemmas.List.Elements.{All-nil, All-cons, All-weaker}
 use Rattle.rinv_algebra.specs.Ring.{RingOps, RingLaws, IsSame}
@@ -60,7 +60,7 @@ module _ (s : System) (cs : List Fraction) (ts : List TiedRelation) (tied : AreT
   is_fraction : (f : Fraction) → IsStored s.p (space_count s) f → IsFraction s f
   is_fraction f h =
       let parts = stored s.p (space_count s) f h in
-      record { numerator = normal_in_variables s (space_count s) f.0 parts.numerator; denominator = normal_in_variables s (space_count s) f.1 parts.denominator; nonzero = ap not parts.nonzero }
+      record { numerator = normal_in_variables s (space_count s) f.0 parts.numerator; denominator = normal_in_variables s (space_count s) f.1 parts.denominator; nonzero = parts.nonzero }
 
   module _ (fractions : All (IsStored s.p (space_count s)) cs) where
     basis : IsSymbolBasis s cs qs

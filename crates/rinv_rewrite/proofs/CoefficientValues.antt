@@ -44,7 +44,7 @@ module _ (p : ℕ) (cs : List Fraction) where
 
   -- what is zero has the value zero
   pub nothing-value : (c : Poly) → is_zero (residue_ops p) c ≡ true → IsSame (rational_ops p) (value_at p cs c) (rational_ops p).zero
-  unfolding value_at
+  unfolding value_at value
   nothing-value c z = value-same c [] z
 
   -- what has another value is not zero

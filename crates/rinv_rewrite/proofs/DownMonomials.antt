@@ -37,7 +37,7 @@ use Rattle.rinv_rewrite.proofs.CoefficientValues.{nothing-value}
 
 -- what is one monomial compares as one
 congruent : (m a b : List ℕ) → same_monomial a b ≡ true → grevlex m a ≡ grevlex m b
-congruent m a b e = alike_right grevlex_laws.total m a b (tied grevlex grevlex_laws.total grevlex_laws.kept a b e)
+congruent m a b e = alike_right grevlex_laws.total a b m (tied grevlex grevlex_laws.total grevlex_laws.kept a b e)
 
 itself : (m : List ℕ) → is_lt (grevlex m m) ≡ false
 itself m = ap is_lt (tied_itself grevlex_laws.total m)
@@ -100,11 +100,14 @@ module _ (p : ℕ) (cs : List Fraction) (rest : SymbolPoly) where
         one : (j : ℕ) → same_monomial (get_or ms j e) e ≡ true → grevlex m (get_or ms j e) ≡ grevlex m e
         one j s = congruent m (get_or ms j e) e s
 
+        weaker : {j : ℕ} → k < j → k ≤ j
+        weaker h = omega (arith, h)
+
         after : (j : ℕ) → j < length ms → same_monomial (get_or ms j e) e ≡ true → is_lt (grevlex m e) ≡ false
         after j b s = elim (cases_order j k) [
           | inl same ↦ ap is_lt (sym (one j s) ∙ ap (λ (i : ℕ). grevlex m (get_or ms i e)) same ∙ ap (grevlex m) (at e)) ∙ itself m
           | inr (inl before) ↦ absurd (so_far j e before (has-same e (get_or ms j e) (same_monomial_sym (get_or ms j e) e s) has))
-          | inr (inr later) ↦ ap is_lt (sym (one j s) ∙ ap (λ (x : List ℕ). grevlex x (get_or ms j e)) (sym (at e))) ∙ sorted_far (λ a b. is_lt (grevlex b a)) (IsStrictWeakOrder-flip (λ a b. is_lt (grevlex a b)) (ranks_by grevlex_laws.total (λ a. a))) ms down.descending k j e later b
+          | inr (inr later) ↦ ap is_lt (sym (one j s) ∙ ap (λ (x : List ℕ). grevlex x (get_or ms j e)) (sym (at e))) ∙ sorted_far (λ a b. is_lt (grevlex b a)) (IsStrictWeakOrder-flip (λ a b. is_lt (grevlex a b)) (ranks_by grevlex_laws.total (λ a. a))) ms down.descending k j e (weaker later) b
         ]
 
     -- the first with a value is the greatest with one

@@ -32,7 +32,8 @@ pub(crate) fn z_ring(system: &System, symbols: u32) -> ZRing
     ensures symbols { result.coeffs.vars ≡ symbols }
     ensures vars { result.vars ≡ space_count system.now.system }
 {
-    PolyRing::new(PolyRing::new(system.field, symbols), system.space.len())
+    let coeffs = PolyRing::new(system.field, symbols);
+    PolyRing::new(coeffs, system.space.len())
 }
 
 /// The relations, tied to generators of a system, made ready once for all fractions. There is one symbol for each of the fractions.

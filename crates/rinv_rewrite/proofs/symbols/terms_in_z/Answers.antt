@@ -22,16 +22,16 @@ pub constant-requires : goal.constant-requires
 constant-requires c =
     let p = c.args.ring.now.coeffs.coeffs in
     let x = c.index-terms-k.result in
-    let is : x ≡ get_or c.args.f.now c.places.k x = subst (λ (ts : Poly). x ≡ get_or ts c.places.k x) c.terms.ensures.value c.index-terms-k.is in
-    let few : c.places.k < length c.args.f.now = subst (λ (ts : Poly). c.places.k < length ts) c.terms.ensures.value c.places-test.true in
+    let is : x ≡ get_or c.args.f.now c.places.k x = subst (λ (ts : Poly). x ≡ get_or ts c.places.k x) c.terms-terms.ensures.value c.index-terms-k.is in
+    let few : c.places.k < length c.args.f.now = subst (λ (ts : Poly). c.places.k < length ts) c.terms-terms.ensures.value c.places-test.true in
     rw c.coeffs.ensures (subst (λ (t : Term ℕ). IsTrue (nat_lt t.1 p)) (sym is) ((ordered-from_normal (residue_ops p) (λ n. nat_lt n p) c.args.ring.now.vars c.args.f.now c.requires).terms c.places.k x few).coefficient)
 
 pub places-preserved : goal.places-preserved
 places-preserved c =
     let p = c.args.ring.now.coeffs.coeffs in
     let x = c.index-terms-k.result in
-    let is : x ≡ get_or c.args.f.now c.places.k x = subst (λ (ts : Poly). x ≡ get_or ts c.places.k x) c.terms.ensures.value c.index-terms-k.is in
-    let few : c.places.k < length c.args.f.now = subst (λ (ts : Poly). c.places.k < length ts) c.terms.ensures.value c.places-test.true in
+    let is : x ≡ get_or c.args.f.now c.places.k x = subst (λ (ts : Poly). x ≡ get_or ts c.places.k x) c.terms-terms.ensures.value c.index-terms-k.is in
+    let few : c.places.k < length c.args.f.now = subst (λ (ts : Poly). c.places.k < length ts) c.terms-terms.ensures.value c.places-test.true in
     let made = rw c.coeffs.ensures at c.in_ok-coefficient.ensures in
     rw c.in_ok-push.ensures.items (worked-next (poly_ops (residue_ops p)) (poly_laws (residue_ops p) (residue_laws p)) (is_symbolic p c.args.ring.now.coeffs.vars) (put p) c.args.f.now c.places.k x c.places.out.items c.in_ok-mono.mono c.in_ok-coefficient.coefficient
     few is c.in_ok-mono.ensures made.element made.value c.places.invariant)
@@ -39,5 +39,5 @@ places-preserved c =
 pub returns : goal.returns
 returns c =
     let p = c.args.ring.now.coeffs.coeffs in
-    let whole : length c.args.f.now ≤ c.places.k = subst (λ (ts : Poly). length ts ≤ c.places.k) c.terms.ensures.value c.places-test.false in
+    let whole : length c.args.f.now ≤ c.places.k = subst (λ (ts : Poly). length ts ≤ c.places.k) c.terms-terms.ensures.value c.places-test.false in
     subst (λ (xs : Poly). AreWorkedOut (poly_ops (residue_ops p)) (is_symbolic p c.args.ring.now.coeffs.vars) (map (put p) xs) c.places.out.items) (take_all c.places.k c.args.f.now whole) c.places.invariant
