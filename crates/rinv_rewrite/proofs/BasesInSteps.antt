@@ -1,6 +1,7 @@
 -- The relations as polynomials and divisors, as they are made one after another.
 --   IsSoFar              those of some relations
 --   start-so_far, next-so_far    none, and one more
+--   first_of             a stored polynomial is written in the variables
 use Rattle.std.proofs.Common.{◌≡◌, ◌<◌, ◌+◌, ℕ, List, [], ◌∷◌, ◌++◌, length, get_or, take, map, All, refl, sym, ◌∙◌, ap, subst, arith}
 use Rattle.std.specs.List.{AllZip}
 use Rattle.std.proofs.lemmas.List.{take_more}
@@ -13,6 +14,9 @@ use Rattle.rinv_algebra.proofs.Grevlex.{grevlex_laws}
 use Rattle.rinv_algebra.proofs.PolynomialLaws.{poly_laws}
 use Rattle.rinv_algebra.proofs.ResidueLaws.{residue_laws}
 use Rattle.rinv_groebner.specs.Division.{AreSame}
+use Rattle.rinv_groebner.proofs.Compared.{InFirst}
+use Rattle.rinv_groebner.proofs.ListElements.{all_first}
+use Rattle.rinv_buch.proofs.InVariables.{all-in_variables}
 use Rattle.rinv_div.specs.Divisors.{AreDivisors, Adds}
 use Rattle.rinv_div.specs.declared.divisors.Divisor.{Divisor}
 use Rattle.rinv_div.proofs.DividedBy.{divisors-nil, divisors-more}
@@ -52,3 +56,8 @@ module _ {R : Type 0} (p k n : ℕ) where
         normal = All-append (IsSymbolPart p k n) polys (f ∷ []) h.normal (All-cons (IsSymbolPart p k n) f [] normal (All-nil (IsSymbolPart p k n)));
         divisors = divisors-more (o p) (l p) (is_symbolic p k) n grevlex grevlex_laws polys f ds after h.divisors adds;
       })
+
+module _ (p k n : ℕ) where
+  -- a stored polynomial is written in the variables
+  pub first_of : (h : SymbolPoly) → IsSymbolPart p k n h → InFirst (o p) (l p) n h
+  first_of h normal = all_first (o p) (l p) n (h ∷ []) (all-in_variables (o p) (is_symbolic p k) n (h ∷ []) (All-cons (IsSymbolPart p k n) h [] normal (All-nil (IsSymbolPart p k n)))) 0

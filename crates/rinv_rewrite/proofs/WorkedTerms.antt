@@ -1,4 +1,6 @@
 -- Terms whose coefficients are worked out.
+--   all-behind, all-front, fused    of what a list is mapped to
+--   one-term             a term whose coefficient is the same
 --   worked-same          they have the same sum
 --   worked-terms         they are terms as a call asks for them
 --   worked-next          one term more
@@ -20,6 +22,19 @@ use Rattle.rinv_poly.proofs.Forms.{IsNormalTerm, ordered-from_normal}
 use Rattle.rinv_poly.proofs.Meets.{worked-append}
 use Rattle.rinv_soundness.specs.Rewriting.{in_z}
 
+-- what holds of the images, and the other way round
+pub all-behind : {X Y : Type 0} (G : X → Y) (Q : Y → Type 0) (xs : List X) → All Q (map G xs) → All (λ x. Q (G x)) xs
+all-behind G Q [] h = All-nil (λ x. Q (G x))
+all-behind G Q (x ∷ xs) h = All-cons (λ x. Q (G x)) x xs (All-head Q (G x) (map G xs) h) (all-behind G Q xs (All-tail Q (G x) (map G xs) h))
+
+pub all-front : {X Y : Type 0} (F : X → Y) (Q : Y → Type 0) (xs : List X) → All (λ x. Q (F x)) xs → All Q (map F xs)
+all-front F Q [] h = All-nil Q
+all-front F Q (x ∷ xs) h = All-cons Q (F x) (map F xs) (All-head (λ x. Q (F x)) x xs h) (all-front F Q xs (All-tail (λ x. Q (F x)) x xs h))
+
+pub fused : {X Y Z : Type 0} (f : X → Y) (g : Y → Z) (xs : List X) → map g (map f xs) ≡ map (λ x. g (f x)) xs
+fused f g [] = refl
+fused f g (x ∷ xs) = ap (λ ys. g (f x) ∷ ys) (fused f g xs)
+
 module _ {E : Type 0} (o : RingOps E) (l : RingLaws o) (is_element : E → Bool) where
   one-term-at : (m : List ℕ) (c d : E) → IsSame o c d → (a : List ℕ) → IsSame o (coefficient o ((m, c) ∷ []) a) (coefficient o ((m, d) ∷ []) a)
   unfolding coefficient
@@ -29,7 +44,7 @@ module _ {E : Type 0} (o : RingOps E) (l : RingLaws o) (is_element : E → Bool)
       go true = l.add_same c d o.zero o.zero e (l.same_refl o.zero)
       go false = l.same_refl o.zero
 
-  one-term : (m : List ℕ) (c d : E) → IsSame o c d → IsSame (poly_ops o) ((m, c) ∷ []) ((m, d) ∷ [])
+  pub one-term : (m : List ℕ) (c d : E) → IsSame o c d → IsSame (poly_ops o) ((m, c) ∷ []) ((m, d) ∷ [])
   one-term m c d e = same-from_coefficients o ((m, c) ∷ []) ((m, d) ∷ []) (one-term-at m c d e)
 
   -- they have the same sum

@@ -41,53 +41,53 @@ places-init c = λ i d low. absurd (omega (arith, low))
 pub has_value_at-requires-clause-vars : goal.has_value_at-requires-clause-vars
 has_value_at-requires-clause-vars c =
     let p = c.args.ring.now.coeffs.coeffs in
-    let m = c.index.result.now in
+    let m = c.index-mono.result.now in
     let ms = c.in_ok-monomials.monomials.items in
     let inside : c.places.k < length ms = omega (arith, c.places-test.true, c.len-k-end.ensures) in
-    (one p c.args.ring.now.coeffs.vars c.args.ring.now.vars c.args.rest.now c.requires.rest m (in-rest p c.args.fractions.now c.args.rest.now ms c.in_ok-monomials.ensures c.places.k m inside (placed ms c.places.k m inside c.index.ensures))).long
+    (one p c.args.ring.now.coeffs.vars c.args.ring.now.vars c.args.rest.now c.requires.rest m (in-rest p c.args.fractions.now c.args.rest.now ms c.in_ok-monomials.ensures c.places.k m inside (placed ms c.places.k m inside c.index-mono.ensures))).long
 
 pub has_value_at-requires-clause-has : goal.has_value_at-requires-clause-has
 has_value_at-requires-clause-has c =
     let p = c.args.ring.now.coeffs.coeffs in
-    let m = c.index.result.now in
+    let m = c.index-mono.result.now in
     let ms = c.in_ok-monomials.monomials.items in
     let inside : c.places.k < length ms = omega (arith, c.places-test.true, c.len-k-end.ensures) in
-    (one p c.args.ring.now.coeffs.vars c.args.ring.now.vars c.args.rest.now c.requires.rest m (in-rest p c.args.fractions.now c.args.rest.now ms c.in_ok-monomials.ensures c.places.k m inside (placed ms c.places.k m inside c.index.ensures))).has
+    (one p c.args.ring.now.coeffs.vars c.args.ring.now.vars c.args.rest.now c.requires.rest m (in-rest p c.args.fractions.now c.args.rest.now ms c.in_ok-monomials.ensures c.places.k m inside (placed ms c.places.k m inside c.index-mono.ensures))).has
 
 pub returns-in_err-has_value-clause-degree : goal.returns-in_err-has_value-clause-degree
 returns-in_err-has_value-clause-degree c =
     let p = c.args.ring.now.coeffs.coeffs in
-    let m = c.index.result.now in
+    let m = c.index-mono.result.now in
     let ms = c.in_ok-monomials.monomials.items in
     let inside : c.places.k < length ms = omega (arith, c.places-test.true, c.len-k-end.ensures) in
     let q = err_from_is_err_and c.from_residual-in_err-has_value.result c.from_residual-in_err-has_value.ensures.1 in
     rw (q.1, q.2) (meet-weaker (ValueMeetsAt p c.args.fractions.now c.args.rest.now m) (RestMeets p c.args.fractions.now c.args.rest.now)
-    (λ x y h. record { monomial = m; down_to = not_below p c.args.fractions.now c.args.rest.now ms c.in_ok-monomials.ensures c.places.k m inside (placed ms c.places.k m inside c.index.ensures) c.places.invariant; meets = h })
+    (λ x y h. record { monomial = m; down_to = not_below p c.args.fractions.now c.args.rest.now ms c.in_ok-monomials.ensures c.places.k m inside (placed ms c.places.k m inside c.index-mono.ensures) c.places.invariant; meets = h })
     c.in_err-has_value.field-0.0 c.in_err-has_value.ensures.degree)
 
 pub places-preserved : goal.places-preserved
 places-preserved c =
-    let m = c.index.result.now in
+    let m = c.index-mono.result.now in
     let ms = c.in_ok-monomials.monomials.items in
     let inside : c.places.k < length ms = omega (arith, c.places-test.true, c.len-k-end.ensures) in
-    passed-more c.args.ring.now.coeffs.coeffs c.args.fractions.now c.args.rest.now ms c.places.k m (placed ms c.places.k m inside c.index.ensures) c.places.invariant (c.in_ok-has_value.ensures.no c.if-has_value.false)
+    passed-more c.args.ring.now.coeffs.coeffs c.args.fractions.now c.args.rest.now ms c.places.k m (placed ms c.places.k m inside c.index-mono.ensures) c.places.invariant (c.in_ok-has_value.ensures.no c.if-has_value.false)
 
 pub returns-then-has_value-clause-vars : goal.returns-then-has_value-clause-vars
 returns-then-has_value-clause-vars c =
     let p = c.args.ring.now.coeffs.coeffs in
-    let m = c.index.result.now in
+    let m = c.index-mono.result.now in
     let ms = c.in_ok-monomials.monomials.items in
     let inside : c.places.k < length ms = omega (arith, c.places-test.true, c.len-k-end.ensures) in
-    ap length c.in_ok-copy.ensures ∙ (one p c.args.ring.now.coeffs.vars c.args.ring.now.vars c.args.rest.now c.requires.rest m (in-rest p c.args.fractions.now c.args.rest.now ms c.in_ok-monomials.ensures c.places.k m inside (placed ms c.places.k m inside c.index.ensures))).long
+    ap length c.in_ok-copy.ensures ∙ (one p c.args.ring.now.coeffs.vars c.args.ring.now.vars c.args.rest.now c.requires.rest m (in-rest p c.args.fractions.now c.args.rest.now ms c.in_ok-monomials.ensures c.places.k m inside (placed ms c.places.k m inside c.index-mono.ensures))).long
 
 pub returns-then-has_value-clause-exact : goal.returns-then-has_value-clause-exact
 returns-then-has_value-clause-exact c =
     let p = c.args.ring.now.coeffs.coeffs in
-    let m = c.index.result.now in
+    let m = c.index-mono.result.now in
     let ms = c.in_ok-monomials.monomials.items in
     let inside : c.places.k < length ms = omega (arith, c.places-test.true, c.len-k-end.ensures) in
     subst (IsGreatestWithValue p c.args.fractions.now c.args.rest.now) (sym c.in_ok-copy.ensures)
-    (greatest-at p c.args.fractions.now c.args.rest.now ms c.in_ok-monomials.ensures c.places.k m inside (placed ms c.places.k m inside c.index.ensures) c.places.invariant (c.in_ok-has_value.ensures.yes c.if-has_value.true))
+    (greatest-at p c.args.fractions.now c.args.rest.now ms c.in_ok-monomials.ensures c.places.k m inside (placed ms c.places.k m inside c.index-mono.ensures) c.places.invariant (c.in_ok-has_value.ensures.yes c.if-has_value.true))
 
 pub returns-clause-exact : goal.returns-clause-exact
 returns-clause-exact c =
