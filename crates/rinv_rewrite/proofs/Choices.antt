@@ -2,7 +2,9 @@
 --   rest-left            what a division in Z leaves is a rest by the relations
 --   nothing-answer       where nothing is chosen, the denominator vanishes
 --   choice-answer        what is chosen is the expression
-use Rattle.std.proofs.Common.{◌≡◌, ℕ, true, not, List, [], ◌∷◌, length, map, All, IsTrue, ap}
+--   answered             both
+use Rattle.std.proofs.Common.{◌≡◌, ℕ, true, List, [], ◌∷◌, length, map, All, IsTrue}
+use Rattle.std.specs.Prelude.{Option, Some, None}
 use Rattle.std.proofs.lemmas.List.Elements.{All-nil, All-cons, All-weaker}
 use Rattle.rinv_algebra.specs.Ring.{RingOps, RingLaws, IsSame}
 use Rattle.rinv_algebra.specs.Residue.{residue_ops}
@@ -30,7 +32,7 @@ use Rattle.rinv_coefficients.proofs.Factors.{factor_left_out}
 use Rattle.rinv_coefficients.proofs.TiedBases.{tied_basis}
 use Rattle.rinv_rewrite.specs.Symbols.{IsSymbolPart, AreTied, is_symbolic}
 use Rattle.rinv_rewrite.specs.Taken.{HasNoValue, LeavesInZ, DenominatorVanishes}
-use Rattle.rinv_rewrite.specs.Answers.{IsStoredChoice, IsExpression}
+use Rattle.rinv_rewrite.specs.Answers.{IsStoredChoice, IsExpression, IsChoice, IsAnswer}
 use Rattle.rinv_rewrite.proofs.CommonFactors.{HasFactor, cancelled_factor}
 use Rattle.rinv_rewrite.proofs.DivisionRests.{division_rest}
 use Rattle.rinv_rewrite.proofs.TiedRelations.{tied_relations, all_low}
@@ -58,7 +60,7 @@ module _ (s : System) (cs : List Fraction) (ts : List TiedRelation) (tied : AreT
   is_fraction : (f : Fraction) → IsStored s.p (space_count s) f → IsFraction s f
   is_fraction f h =
       let parts = stored s.p (space_count s) f h in
-      record { numerator = normal_in_variables s (space_count s) f.0 parts.numerator; denominator = normal_in_variables s (space_count s) f.1 parts.denominator; nonzero = ap not parts.nonzero }
+      record { numerator = normal_in_variables s (space_count s) f.0 parts.numerator; denominator = normal_in_variables s (space_count s) f.1 parts.denominator; nonzero = parts.nonzero }
 
   module _ (fractions : All (IsStored s.p (space_count s)) cs) where
     basis : IsSymbolBasis s cs qs
@@ -87,3 +89,8 @@ module _ (s : System) (cs : List Fraction) (ts : List TiedRelation) (tied : AreT
             stored = c.stored;
             taken = record { numerator = a; denominator = b; numerator_rest = num; denominator_rest = den; chosen = c.chosen };
           }
+
+      -- what is answered
+      pub answered : IsSystem s → (a : SymbolPoly) → IsRestBy s qs (in_z s.p f.0) a → (r : Option Expression) → IsChoice s.p cs a b r → IsAnswer s cs qs f r
+      answered system a num None c = nothing-answer c
+      answered system a num (Some e) c = choice-answer system a num e c

@@ -3,7 +3,8 @@
 --   value_test           whether a value that stands for that of a coefficient is zero
 --   nothing-value        what is zero has the value zero
 --   value-nonzero        what has another value is not zero
-use Rattle.std.proofs.Common.{◌≡◌, ℕ, Bool, true, false, List, [], inl, inr, refl, sym, ◌∙◌, ap, true≢false}
+--   tested-yes, tested-no    a test of the value at a monomial
+use Rattle.std.proofs.Common.{◌≡◌, ℕ, Bool, true, false, not, List, [], inl, inr, refl, sym, ◌∙◌, ap, true≢false}
 use Rattle.std.specs.Prelude.{IsTrue}
 use Rattle.std.proofs.lemmas.Bool.{cases_Bool}
 use Rattle.rinv_algebra.specs.Ring.{IsSame}
@@ -44,7 +45,7 @@ module _ (p : ℕ) (cs : List Fraction) where
 
   -- what is zero has the value zero
   pub nothing-value : (c : Poly) → is_zero (residue_ops p) c ≡ true → IsSame (rational_ops p) (value_at p cs c) (rational_ops p).zero
-  unfolding value_at
+  unfolding value_at value
   nothing-value c z = value-same c [] z
 
   -- what has another value is not zero
@@ -54,6 +55,11 @@ module _ (p : ℕ) (cs : List Fraction) where
     | inr off ↦ off
   ]
 
-  -- of a test of the value at a monomial: it has a value, or none
-  pub test-has : (b : SymbolPoly) (m : List ℕ) (t : Bool) → t ≡ (rational_ops p).same (value_at p cs (coefficient (poly_ops (residue_ops p)) b m)) (rational_ops p).zero → t ≡ false → HasValueAt p cs b m
-  test-has b m t is e z = true≢false (sym z ∙ sym is ∙ e)
+  -- of a test whether the value at a monomial is zero: it has a value, or none
+  pub tested-yes : (b : SymbolPoly) (m : List ℕ) (z : Bool) → z ≡ (rational_ops p).same (value_at p cs (coefficient (poly_ops (residue_ops p)) b m)) (rational_ops p).zero → not z ≡ true → HasValueAt p cs b m
+  tested-yes b m true is e = absurd (true≢false (sym e))
+  tested-yes b m false is e = λ same. true≢false (sym same ∙ sym is)
+
+  pub tested-no : (b : SymbolPoly) (m : List ℕ) (z : Bool) → z ≡ (rational_ops p).same (value_at p cs (coefficient (poly_ops (residue_ops p)) b m)) (rational_ops p).zero → not z ≡ false → ¬ (HasValueAt p cs b m)
+  tested-no b m true is e = λ has. has (sym is)
+  tested-no b m false is e = absurd (true≢false e)

@@ -1,6 +1,7 @@
 -- What is cancelled leaves out a common factor of both parts.
 --   cancelled_factor    the fact
 use Rattle.std.proofs.Common.{◌≡◌, ℕ, Bool, true, false, List, [], ◌∷◌, refl, sym, ◌∙◌, subst}
+use Rattle.std.proofs.lemmas.List.{append-nil}
 use Rattle.std.specs.Prelude.{if◌then◌else◌}
 use Rattle.rinv_algebra.specs.Ring.{RingOps, RingLaws, FieldLaws, IsSame}
 use Rattle.rinv_algebra.specs.Polynomial.{Polynomial, poly_ops, product, term_product, constant, coefficient, is_zero}
@@ -11,7 +12,6 @@ use Rattle.rinv_algebra.proofs.PolynomialLaws.{poly_laws}
 use Rattle.rinv_algebra.proofs.Same.{same-from_coefficients}
 use Rattle.rinv_theory.proofs.AlikeSolver.{alike_ring, alike_reading}
 use Rattle.rinv_frac.specs.Cancelling.{IsSamePair, IsStripped, IsDivided, whole, reciprocal, neither, IsScaled, IsCancelled, zero, nonzero}
-use Rattle.rinv_frac.proofs.CancelledValues.{by_term}
 
 module _ {E : Type 0} (o : RingOps E) (l : RingLaws o) where
   abbrev P : RingOps (Polynomial E)
@@ -19,6 +19,11 @@ module _ {E : Type 0} (o : RingOps E) (l : RingLaws o) where
 
   abbrev q : RingLaws (poly_ops o)
   q = poly_laws o l
+
+  -- a term times a polynomial, as a product
+  by_term : (t : List ℕ × E) (g : Polynomial E) → term_product o t g ≡ product o (t ∷ []) g
+  unfolding product
+  by_term t g = sym (append-nil (term_product o t g))
 
   -- both parts of f are multiples of those of g, by one factor
   pub record HasFactor (f g : Fraction E) : Type 0 where
@@ -43,8 +48,8 @@ module _ {E : Type 0} (o : RingOps E) (l : RingLaws o) where
   stripped : (f g : Fraction E) → IsStripped o f g → HasFactor f g
   stripped f g s = record {
     factor = (s.monomial, o.one) ∷ [];
-    numerator = subst (IsSame P f.0) (by_term o l (s.monomial, o.one) g.0) s.whole.numerator;
-    denominator = subst (IsSame P f.1) (by_term o l (s.monomial, o.one) g.1) s.whole.denominator;
+    numerator = subst (IsSame P f.0) (by_term (s.monomial, o.one) g.0) s.whole.numerator;
+    denominator = subst (IsSame P f.1) (by_term (s.monomial, o.one) g.1) s.whole.denominator;
   }
 
   divided : (f g : Fraction E) → IsDivided o f g → HasFactor f g
@@ -53,7 +58,7 @@ module _ {E : Type 0} (o : RingOps E) (l : RingLaws o) where
   divided f _ (neither a b) = record { factor = P.one; numerator = by_one f.0; denominator = by_one f.1 }
 
   constants-at : (c d : E) → IsSame o (o.mul c d) o.one → (m : List ℕ) → IsSame o (coefficient o (term_product o ([], c) (constant o d)) m) (coefficient o P.one m)
-  unfolding coefficient
+  unfolding coefficient monomial_product
   constants-at c d e m = go (same_monomial [] m)
     where
       go : (b : Bool) → IsSame o (if b then o.add (o.mul c d) o.zero else o.zero) (if b then o.add o.one o.zero else o.zero)
@@ -62,13 +67,13 @@ module _ {E : Type 0} (o : RingOps E) (l : RingLaws o) where
 
   -- the product of constants whose product is one
   constants : (c d : E) → IsSame o (o.mul c d) o.one → IsSame P (P.mul (constant o c) (constant o d)) P.one
-  constants c d e = subst (λ x. IsSame P x P.one) (by_term o l ([], c) (constant o d)) (same-from_coefficients o (term_product o ([], c) (constant o d)) P.one (constants-at c d e))
+  constants c d e = subst (λ x. IsSame P x P.one) (by_term ([], c) (constant o d)) (same-from_coefficients o (term_product o ([], c) (constant o d)) P.one (constants-at c d e))
 
   scaled : (f g : Fraction E) → IsScaled o f g → HasFactor f g
   scaled f g s = record {
     factor = constant o lead;
-    numerator = undone f.0 g.0 (subst (IsSame P g.0) (by_term o l ([], s.factor) f.0) s.scaled.numerator);
-    denominator = undone f.1 g.1 (subst (IsSame P g.1) (by_term o l ([], s.factor) f.1) s.scaled.denominator);
+    numerator = undone f.0 g.0 (subst (IsSame P g.0) (by_term ([], s.factor) f.0) s.scaled.numerator);
+    denominator = undone f.1 g.1 (subst (IsSame P g.1) (by_term ([], s.factor) f.1) s.scaled.denominator);
   }
     where
       lead : E

@@ -4,13 +4,14 @@
 --   not_below            a monomial whose coefficient has a value is not above one to which all were passed
 --   greatest-at, none-left    the first with a value, and no more monomials
 --   in-rest              its monomials are those of the rest's terms
-use Rattle.std.proofs.Common.{◌≡◌, ◌<◌, ◌≤◌, ◌+◌, ℕ, Bool, true, false, not, List, [], length, get_or, map, inl, inr, refl, sym, ◌∙◌, ap, subst, arith, true≢false}
+use Rattle.std.proofs.Common.{◌≡◌, ◌<◌, ◌≤◌, ◌+◌, ℕ, Bool, true, false, not, List, [], ◌∷◌, ◌++◌, length, get_or, take, map, inl, inr, refl, sym, ◌∙◌, ap, ap₂, subst, arith, true≢false}
 use Rattle.std.specs.Prelude.{Contains, IsTrue}
+use Rattle.std.proofs.lemmas.Cmp.{alike_right, tied_itself}
 use Rattle.std.specs.Ordering.{is_ge, is_lt}
 use Rattle.std.specs.declared.cmp.Ordering.{Ordering}
 use Rattle.std.specs.declared.cmp.Ordering.TheVariants.{Less, Equal, Greater}
 use Rattle.std.proofs.lemmas.Bool.{cases_Bool, cases_order, cases_lt}
-use Rattle.std.proofs.lemmas.List.{get_or-map, length-map, get_or_default}
+use Rattle.std.proofs.lemmas.List.{get_or-map, length-map, get_or_default, take_more}
 use Rattle.std.proofs.lemmas.List.Elements.{Contains-get_or}
 use Rattle.std.proofs.lemmas.List.MinMax.{ranks_by, IsStrictWeakOrder-flip}
 use Rattle.std.proofs.lemmas.List.Sorted.{sorted_far, Contains-permutation, IsPermutation-sym}
@@ -36,7 +37,7 @@ use Rattle.rinv_rewrite.proofs.CoefficientValues.{nothing-value}
 
 -- what is one monomial compares as one
 congruent : (m a b : List ℕ) → same_monomial a b ≡ true → grevlex m a ≡ grevlex m b
-congruent m a b e = alike_right grevlex_laws.total m a b (tied grevlex grevlex_laws.total grevlex_laws.kept a b e)
+congruent m a b e = alike_right grevlex_laws.total a b m (tied grevlex grevlex_laws.total grevlex_laws.kept a b e)
 
 itself : (m : List ℕ) → is_lt (grevlex m m) ≡ false
 itself m = ap is_lt (tied_itself grevlex_laws.total m)
@@ -45,6 +46,15 @@ not_less : (x : Ordering) → is_lt x ≡ false → IsTrue (is_ge x)
 not_less Less e = absurd (true≢false e)
 not_less Equal e = refl
 not_less Greater e = refl
+
+-- the monomial of one term more
+pub monomials-more : (f : SymbolPoly) (k : ℕ) (t : Term Poly) (ms : List (List ℕ)) (m : List ℕ) → k < length f → t ≡ get_or f k t → m ≡ t.0 → ms ≡ map (λ (t : Term Poly). t.0) (take k f) → ms ++ m ∷ [] ≡ map (λ (t : Term Poly). t.0) (take (k + 1) f)
+monomials-more f k t ms m inside is mono so_far =
+    ap₂ (λ (xs : List (List ℕ)) x. xs ++ x ∷ []) so_far mono ∙ sym (appended (take k f)) ∙ ap (map (λ (t : Term Poly). t.0)) (sym (take_more f k t inside ∙ ap (λ u. take k f ++ u ∷ []) (sym is)))
+  where
+    appended : (g : SymbolPoly) → map (λ (t : Term Poly). t.0) (g ++ t ∷ []) ≡ map (λ (t : Term Poly). t.0) g ++ t.0 ∷ []
+    appended [] = refl
+    appended (u ∷ g) = ap (λ (xs : List (List ℕ)). u.0 ∷ xs) (appended g)
 
 module _ (p : ℕ) (cs : List Fraction) (rest : SymbolPoly) where
   -- at the monomials before this place no coefficient has a value
@@ -90,11 +100,14 @@ module _ (p : ℕ) (cs : List Fraction) (rest : SymbolPoly) where
         one : (j : ℕ) → same_monomial (get_or ms j e) e ≡ true → grevlex m (get_or ms j e) ≡ grevlex m e
         one j s = congruent m (get_or ms j e) e s
 
+        weaker : {j : ℕ} → k < j → k ≤ j
+        weaker h = omega (arith, h)
+
         after : (j : ℕ) → j < length ms → same_monomial (get_or ms j e) e ≡ true → is_lt (grevlex m e) ≡ false
         after j b s = elim (cases_order j k) [
           | inl same ↦ ap is_lt (sym (one j s) ∙ ap (λ (i : ℕ). grevlex m (get_or ms i e)) same ∙ ap (grevlex m) (at e)) ∙ itself m
           | inr (inl before) ↦ absurd (so_far j e before (has-same e (get_or ms j e) (same_monomial_sym (get_or ms j e) e s) has))
-          | inr (inr later) ↦ ap is_lt (sym (one j s) ∙ ap (λ (x : List ℕ). grevlex x (get_or ms j e)) (sym (at e))) ∙ sorted_far (λ a b. is_lt (grevlex b a)) (IsStrictWeakOrder-flip (λ a b. is_lt (grevlex a b)) (ranks_by grevlex_laws.total (λ a. a))) ms down.descending k j e later b
+          | inr (inr later) ↦ ap is_lt (sym (one j s) ∙ ap (λ (x : List ℕ). grevlex x (get_or ms j e)) (sym (at e))) ∙ sorted_far (λ a b. is_lt (grevlex b a)) (IsStrictWeakOrder-flip (λ a b. is_lt (grevlex a b)) (ranks_by grevlex_laws.total (λ a. a))) ms down.descending k j e (weaker later) b
         ]
 
     -- the first with a value is the greatest with one

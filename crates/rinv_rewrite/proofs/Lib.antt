@@ -8,3 +8,5 @@ pub mod DownMonomials
 pub mod CommonFactors
 pub mod VanishingRests
 pub mod Choices
+pub mod ExpressingFaults
+pub mod AnswerClauses

@@ -1,19 +1,33 @@
 -- The coefficient of a stored polynomial at a monomial, as its terms are searched.
+--   compared-equal, compared-other    what a comparison says
 --   IsPassed, passed-more    the first terms have other monomials
 --   found-coefficient        the term that has it
 --   none-found               no term has it
-use Rattle.std.proofs.Common.{◌≡◌, ◌<◌, ◌≤◌, ◌+◌, ℕ, zero, suc, Bool, true, false, List, [], ◌∷◌, length, get_or, sym, ap, ◌∙◌, subst, inl, inr, arith, All, IsTrue}
+use Rattle.std.proofs.Common.{◌≡◌, ◌<◌, ◌≤◌, ◌+◌, ◌==◌, ℕ, zero, suc, Bool, true, false, List, [], ◌∷◌, length, get_or, sym, ap, ◌∙◌, subst, inl, inr, arith, All, IsTrue, true≢false}
+use Rattle.std.specs.Ordering.{ordering_index, is_eq}
+use Rattle.std.specs.declared.cmp.Ordering.{Ordering}
 use Rattle.std.proofs.lemmas.Bool.{cases_lt, cases_Bool}
+use Rattle.std.proofs.lemmas.Cmp.{is_eq_index}
 use Rattle.std.proofs.lemmas.List.{get_or_default}
 use Rattle.rinv_algebra.specs.Ring.{RingOps, RingLaws, IsSame}
 use Rattle.rinv_algebra.specs.Monomial.{same_monomial}
+use Rattle.rinv_algebra.specs.Order.{lex}
 use Rattle.rinv_algebra.specs.Polynomial.{Term, Polynomial, coefficient}
 use Rattle.rinv_algebra.specs.Normal.{IsNormal}
 use Rattle.rinv_algebra.proofs.MonomialLaws.{same_monomial-of_length}
 use Rattle.rinv_algebra.proofs.RingFacts as facts
 use Rattle.rinv_algebra.proofs.Same.{IsAbsent, coefficient-absent}
 use Rattle.rinv_poly.proofs.Forms.{IsNormalTerm, ordered-from_normal}
+use Rattle.rinv_poly.proofs.Lexicographic.{lex_equal, lex_itself}
 use Rattle.rinv_poly.proofs.NormalFacts.{coefficient-of_term}
+
+-- two monomials that compare as equal are
+pub compared-equal : (a b : List ℕ) (x : Ordering) (r : Bool) → x ≡ lex a b → r ≡ (ordering_index x == 1) → r ≡ true → a ≡ b
+compared-equal a b x r is e h = lex_equal a b (ap is_eq (sym is) ∙ is_eq_index x ∙ sym e ∙ h)
+
+-- and others are not
+pub compared-other : (a b : List ℕ) (x : Ordering) (r : Bool) → x ≡ lex a b → r ≡ (ordering_index x == 1) → r ≡ false → ¬ (a ≡ b)
+compared-other a b x r is e h same = true≢false (sym (ap is_eq (lex_itself b)) ∙ ap (λ (m : List ℕ). is_eq (lex m b)) (sym same) ∙ ap is_eq (sym is) ∙ is_eq_index x ∙ sym e ∙ h)
 
 module _ {E : Type 0} where
   -- the first k terms have other monomials

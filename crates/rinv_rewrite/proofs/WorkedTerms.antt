@@ -1,19 +1,39 @@
 -- Terms whose coefficients are worked out.
+--   all-behind, all-front, fused    of what a list is mapped to
+--   one-term             a term whose coefficient is the same
 --   worked-same          they have the same sum
 --   worked-terms         they are terms as a call asks for them
 --   worked-next          one term more
-use Rattle.std.proofs.Common.{◌≡◌, ◌<◌, ℕ, ◌+◌, Bool, true, false, List, [], ◌∷◌, ◌++◌, length, get_or, take, map, All, IsTrue, refl, sym, ap, ◌∙◌, subst, arith}
+--   long-in_z            the monomials of a polynomial in so many variables, put in Z
+use Rattle.std.proofs.Common.{◌≡◌, ◌<◌, ℕ, ◌+◌, Bool, true, false, List, [], ◌∷◌, ◌++◌, length, get_or, take, map, All, IsTrue, nat_lt, refl, sym, ap, ◌∙◌, subst, arith}
 use Rattle.std.proofs.lemmas.List.{take_more}
 use Rattle.std.proofs.lemmas.List.Elements.{All-nil, All-cons, All-head, All-tail}
 use Rattle.std.specs.Prelude.{if◌then◌else◌}
 use Rattle.rinv_algebra.specs.Ring.{RingOps, RingLaws, IsSame}
 use Rattle.rinv_algebra.specs.Monomial.{same_monomial}
-use Rattle.rinv_algebra.specs.Polynomial.{Term, Polynomial, poly_ops, coefficient}
+use Rattle.rinv_algebra.specs.Normal.{IsNormal}
+use Rattle.rinv_algebra.specs.Residue.{residue_ops}
+use Rattle.rinv_algebra.specs.Polynomial.{Term, Polynomial, poly_ops, coefficient, constant}
 use Rattle.rinv_algebra.proofs.PolynomialLaws.{poly_laws}
 use Rattle.rinv_algebra.proofs.Same.{same-from_coefficients}
 use Rattle.rinv_poly.specs.Terms.{IsTerm}
 use Rattle.rinv_poly.specs.Faults.{AreWorkedOut, StandsFor}
+use Rattle.rinv_poly.proofs.Forms.{IsNormalTerm, ordered-from_normal}
 use Rattle.rinv_poly.proofs.Meets.{worked-append}
+use Rattle.rinv_soundness.specs.Rewriting.{in_z}
+
+-- what holds of the images, and the other way round
+pub all-behind : {X Y : Type 0} (G : X → Y) (Q : Y → Type 0) (xs : List X) → All Q (map G xs) → All (λ x. Q (G x)) xs
+all-behind G Q [] h = All-nil (λ x. Q (G x))
+all-behind G Q (x ∷ xs) h = All-cons (λ x. Q (G x)) x xs (All-head Q (G x) (map G xs) h) (all-behind G Q xs (All-tail Q (G x) (map G xs) h))
+
+pub all-front : {X Y : Type 0} (F : X → Y) (Q : Y → Type 0) (xs : List X) → All (λ x. Q (F x)) xs → All Q (map F xs)
+all-front F Q [] h = All-nil Q
+all-front F Q (x ∷ xs) h = All-cons Q (F x) (map F xs) (All-head (λ x. Q (F x)) x xs h) (all-front F Q xs (All-tail (λ x. Q (F x)) x xs h))
+
+pub fused : {X Y Z : Type 0} (f : X → Y) (g : Y → Z) (xs : List X) → map g (map f xs) ≡ map (λ x. g (f x)) xs
+fused f g [] = refl
+fused f g (x ∷ xs) = ap (λ ys. g (f x) ∷ ys) (fused f g xs)
 
 module _ {E : Type 0} (o : RingOps E) (l : RingLaws o) (is_element : E → Bool) where
   one-term-at : (m : List ℕ) (c d : E) → IsSame o c d → (a : List ℕ) → IsSame o (coefficient o ((m, c) ∷ []) a) (coefficient o ((m, d) ∷ []) a)
@@ -24,7 +44,7 @@ module _ {E : Type 0} (o : RingOps E) (l : RingLaws o) (is_element : E → Bool)
       go true = l.add_same c d o.zero o.zero e (l.same_refl o.zero)
       go false = l.same_refl o.zero
 
-  one-term : (m : List ℕ) (c d : E) → IsSame o c d → IsSame (poly_ops o) ((m, c) ∷ []) ((m, d) ∷ [])
+  pub one-term : (m : List ℕ) (c d : E) → IsSame o c d → IsSame (poly_ops o) ((m, c) ∷ []) ((m, d) ∷ [])
   one-term m c d e = same-from_coefficients o ((m, c) ∷ []) ((m, d) ∷ []) (one-term-at m c d e)
 
   -- they have the same sum
@@ -55,3 +75,11 @@ module _ {E : Type 0} (o : RingOps E) (l : RingLaws o) (is_element : E → Bool)
       map_append : (ys : List _) → map F (ys ++ x ∷ []) ≡ map F ys ++ F x ∷ []
       map_append [] = refl
       map_append (y ∷ ys) = ap (λ r. F y ∷ r) (map_append ys)
+
+-- a polynomial in n variables, put in Z
+pub long-in_z : (p n : ℕ) (f : Polynomial ℕ) → IsNormal (residue_ops p) (λ c. nat_lt c p) n f → All (λ t. length t.0 ≡ n) (in_z p f)
+long-in_z p n f normal = long f (ordered-from_normal (residue_ops p) (λ c. nat_lt c p) n f normal).terms
+  where
+    long : (g : Polynomial ℕ) → All (IsNormalTerm (residue_ops p) (λ c. nat_lt c p) n) g → All (λ t. length t.0 ≡ n) (in_z p g)
+    long [] h = All-nil (λ t. length t.0 ≡ n)
+    long (t ∷ g) h = All-cons (λ t. length t.0 ≡ n) (t.0, constant (residue_ops p) t.1) (in_z p g) (All-head (IsNormalTerm (residue_ops p) (λ c. nat_lt c p) n) t g h).vars (long g (All-tail (IsNormalTerm (residue_ops p) (λ c. nat_lt c p) n) t g h))

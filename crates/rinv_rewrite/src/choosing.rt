@@ -62,9 +62,10 @@ fn greatest_with_value(
 {
     let monomials = monomials_down(alloc, rest)?;
     'places: for k in 0..monomials.len() {
-        let has_value = has_value_at(ring, alloc, field, fractions, rest, &monomials[k])?;
+        let mono = &monomials[k];
+        let has_value = has_value_at(ring, alloc, field, fractions, rest, mono)?;
         if has_value {
-            let copy = monomials[k].copy(alloc)?;
+            let copy = mono.copy(alloc)?;
             return Ok(Some(copy));
         }
     }

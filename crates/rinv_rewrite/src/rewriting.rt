@@ -73,6 +73,32 @@ fn expressed(
     Ok(expression)
 }
 
+/// The expression of an invariant in the fractions, by relations that are tied to them; None exactly where it is invariant and its
+/// denominator vanishes on the section. The stops are those of `rewritten`.
+pub fn rewritten_by(
+    alloc: Global,
+    system: &System,
+    group: &GroupBasis,
+    fractions: &[Frac],
+    basis: &SymbolBasis,
+    f: &Frac,
+) -> Result<Option<Expression>, RewriteStop>
+    requires system { IsSystem system.now.system }
+    requires group { IsGroupBasis system.now.system group.now.basis group.now.reduced.items }
+    requires fractions { All (IsStored system.now.system.p (space_count system.now.system)) fractions.now }
+    requires basis { (ts : List TiedRelation) × IsReady system.now.system.p (length fractions.now) (space_count system.now.system) ts basis.now }
+    requires fraction { IsStored system.now.system.p (space_count system.now.system) f.now }
+    ensures invariant { OnOk result (IsInvariant system.now.system f.now) }
+    ensures answer { (ts : List TiedRelation) → AreTied system.now.system fractions.now ts → IsReady system.now.system.p (length fractions.now) (space_count system.now.system) ts basis.now → MatchResult result (IsAnswer system.now.system fractions.now (symbol_relations system.now.system.p ts) f.now) (RewriteStopsSo system.now.system group.now.basis fractions.now (symbol_relations system.now.system.p ts) f.now) }
+{
+    tested(alloc, system, group, f)?;
+    match expressed(alloc, system, fractions, basis, f) {
+        Ok(expression) => Ok(expression),
+        Err(RingFault::Degree { left, right }) => Err(RewriteStop::Degree { left, right }),
+        Err(RingFault::NoMemory) => Err(RewriteStop::NoMemory),
+    }
+}
+
 /// The expression of an invariant in the generators that were found for a system; None exactly where it is invariant and its denominator
 /// vanishes on the section, which none does where there is no section.
 ///
@@ -96,10 +122,6 @@ pub fn rewritten(
     ensures taken { IfOk result (λ r. MatchOption r ⊤ (IsTaken system.now.system found.now.fractions.items (symbol_relations system.now.system.p found.now.relations.items) f.now)) }
     ensures stop { IfErr result (RewriteStopsSo system.now.system found.now.group.basis found.now.fractions.items (symbol_relations system.now.system.p found.now.relations.items) f.now) }
 {
-    tested(alloc, system, &found.group, f)?;
-    match expressed(alloc, system, &found.fractions, basis, f) {
-        Ok(expression) => Ok(expression),
-        Err(RingFault::Degree { left, right }) => Err(RewriteStop::Degree { left, right }),
-        Err(RingFault::NoMemory) => Err(RewriteStop::NoMemory),
-    }
+    let expression = rewritten_by(alloc, system, &found.group, &found.fractions, basis, f)?;
+    Ok(expression)
 }

@@ -30,6 +30,7 @@ fn symbol(ring: &PolyRing<Gf>, alloc: Global, tied: Symbol) -> Result<KPoly, NoM
     ensures element { IfOk result (IsPart ring.now.coeffs ring.now.vars) }
     ensures value { IfOk result (λ r. IsSame (poly_ops (residue_ops ring.now.coeffs)) r (symbol_of ring.now.coeffs (tied_of tied))) }
 {
+    let _count = ring.vars();
     match tied {
         Symbol::Constant(value) => {
             let constant = ring.constant(alloc, value)?;

@@ -150,22 +150,27 @@ fn has_terms(f: &KPoly, wanted: &[Term]) -> bool {
 // What is answered for the fraction.
 fn answer(
     alloc: Global,
-    text: &[u8],
+    system: &System,
     num: &str,
     den: &str,
-) -> Option<Result<Option<Expression>, RewriteStop>> {
-    let system = system_of(alloc, text)?;
-    let found = found_of(alloc, &system)?;
-    let f = fraction_of(alloc, &system, num, den)?;
-    match prepared(alloc, &system, &found) {
-        Ok(basis) => Some(rewritten(alloc, &system, &found, &basis, &f)),
+) -> Option<Result<Option<Expression>, RewriteStop>>
+    requires { IsSystem system.now.system }
+{
+    let found = found_of(alloc, system)?;
+    let f = fraction_of(alloc, system, num, den)?;
+    match prepared(alloc, system, &found) {
+        Ok(basis) => Some(rewritten(alloc, system, &found, &basis, &f)),
         Err(_) => None,
     }
 }
 
-// Whether the fraction is rewritten to these parts.
-fn gives(alloc: Global, text: &[u8], fraction: (&str, &str), num: &[Term], den: &[Term]) -> bool {
-    match answer(alloc, text, fraction.0, fraction.1) {
+// Whether it is an expression with these parts.
+fn is_expression(
+    answer: Option<Result<Option<Expression>, RewriteStop>>,
+    num: &[Term],
+    den: &[Term],
+) -> bool {
+    match answer {
         Some(Ok(Some(expression))) => {
             has_terms(&expression.num, num) && has_terms(&expression.den, den)
         }
@@ -173,17 +178,45 @@ fn gives(alloc: Global, text: &[u8], fraction: (&str, &str), num: &[Term], den: 
     }
 }
 
+// Whether the fraction is rewritten to these parts.
+fn gives(alloc: Global, text: &[u8], fraction: (&str, &str), num: &[Term], den: &[Term]) -> bool {
+    match system_of(alloc, text) {
+        Some(system) => is_expression(answer(alloc, &system, fraction.0, fraction.1), num, den),
+        None => false,
+    }
+}
+
+// Whether it is so on the line where y is 1.
+fn gives_on_line(
+    alloc: Global,
+    text: &[u8],
+    fraction: (&str, &str),
+    num: &[Term],
+    den: &[Term],
+) -> bool {
+    match on_line(alloc, text) {
+        Some(system) => is_expression(answer(alloc, &system, fraction.0, fraction.1), num, den),
+        None => false,
+    }
+}
+
 // Whether the fraction is not invariant, with this rest.
 fn strays(alloc: Global, text: &[u8], num: &str, den: &str, wanted: &[Term]) -> bool {
-    match answer(alloc, text, num, den) {
+    let Some(system) = system_of(alloc, text) else {
+        return false;
+    };
+    match answer(alloc, &system, num, den) {
         Some(Err(RewriteStop::NotInvariant { rest })) => has_terms(&rest, wanted),
         _ => false,
     }
 }
 
-// Whether its denominator vanishes on the section.
-fn vanishes(alloc: Global, text: &[u8], num: &str, den: &str) -> bool {
-    match answer(alloc, text, num, den) {
+// Whether its denominator vanishes on the line where y is 1.
+fn vanishes_on_line(alloc: Global, text: &[u8], num: &str, den: &str) -> bool {
+    let Some(system) = on_line(alloc, text) else {
+        return false;
+    };
+    match answer(alloc, &system, num, den) {
         Some(Ok(None)) => true,
         _ => false,
     }
