@@ -1,9 +1,11 @@
 -- From the words and the source to the sink and the status:
 --   Run         what each status says of a run
+--   Headlines   the headline of a run
 --   Words       the command that words are
 --   Statuses    the status of an answer
 --   Sent        what came of the writing
 pub mod Run
+pub mod Headlines
 pub mod Words
 pub mod Statuses
 pub mod Sent

@@ -1,0 +1,95 @@
+-- Where an answer ends with the line `complete`, the headline holds of it.
+use Rattle.std.proofs.Common.{◌≡◌, ℕ, List, [], ◌++◌, refl, codes}
+use Rattle.rinv_defs.specs.System.{System}
+use Rattle.rinv_defs.specs.Invariant.{Fraction}
+use Rattle.rinv_defs.specs.Generators.{IsSound}
+use Rattle.rinv_defs.specs.Certificate.{Certificate, Kind, invariance, sound, full}
+use Rattle.rinv_defs.specs.Text.{fraction_lines, kind_text, yes_text}
+use Rattle.rinv_text.specs.Told.{Told}
+use Rattle.rinv_system.specs.Texts.{IsSystemText}
+use Rattle.rinv_answers.specs.declared.incomplete.Phase.TheVariants as phase
+use Rattle.rinv_answers.specs.declared.incomplete.Cause.TheVariants as cause
+use Rattle.rinv_answers.specs.declared.ending.Ending.{Ending}
+use Rattle.rinv_answers.specs.declared.ending.Ending.TheVariants.{Done, Denied, Refused, Incomplete}
+use Rattle.rinv_answers.specs.GeneratorLines.{generator_lines}
+use Rattle.rinv_answers.specs.Incomplete.{phase_of, cause_of}
+use Rattle.rinv_answers.specs.Told.{AnswersTold}
+use Rattle.rinv_answers.specs.Commands.Check.{IsCheckAnswer}
+use Rattle.rinv_answers.specs.Commands.Laws.{IsTested, IsCut, IsLawsAnswer}
+use Rattle.rinv_answers.specs.Commands.Generators.{AreComplete, IsFound, IsPhaseCut, IsGenAnswer}
+use Rattle.rinv_commands.specs.declared.command.Command.{Command}
+use Rattle.rinv_commands.specs.declared.command.Command.TheVariants as command
+use Rattle.rinv_commands.specs.Answers.{IsAnswer}
+use Rattle.rinv_commands.specs.Headline.{EndsComplete, IsHeadline}
+use Rattle.rinv_commands.proofs.LastLines.{ends-otherwise}
+use Rattle.rinv_commands.proofs.ToldNames.{system-named}
+use Rattle.rinv_commands.proofs.OtherLines.{not-hold, not-refused, not-incomplete, not-no, not-refused_part, not-denial, not-gen_denial, no-section}
+
+-- complete generators are sound where there is no section
+pub complete-sound : (s : System) (cs : List Fraction) → s.section ≡ [] → AreComplete s cs → IsSound s cs
+complete-sound s cs none c = record { laws = c.laws; invariant = c.invariant; generates = c.generates none }
+
+module _ (text : List ℕ) (h : EndsComplete text) where
+  -- ---- check
+
+  -- the kind `full` alone ends so
+  kind-full : (front : List ℕ) (k : Kind) → text ≡ front ++ kind_text k → k ≡ full
+  kind-full front full printed = refl
+  kind-full front invariance printed = absurd (ends-otherwise text front (codes "invariant\n") h printed refl)
+  kind-full front sound printed = absurd (ends-otherwise text front (codes "sound\n") h printed refl)
+
+  yes-full : (c : Certificate) → text ≡ yes_text c → c.kind ≡ full
+  unfolding yes_text
+  yes-full c printed = kind-full (codes "yes\n" ++ fraction_lines c.system.p c.system.space 1 c.fractions) c.kind printed
+
+  of-check : (bytes : List ℕ) (ending : Ending) → IsCheckAnswer bytes text ending → IsHeadline command.Check bytes text
+  of-check bytes Done y = record {
+    system = y.certificate.system;
+    fractions = y.certificate.fractions;
+    sound = y.complete (yes-full y.certificate y.printed);
+    shown = record { certificate = y.certificate; denoted = y.denoted; system = refl; fractions = refl; printed = y.printed };
+  }
+  of-check bytes Denied n = absurd (not-no text n.failure h n.printed)
+  of-check bytes Refused r = absurd (not-refused_part text r.part r.place h r.printed)
+  of-check bytes Incomplete a = absurd a
+
+  -- ---- laws
+
+  cut : (told : Told) → IsCut told text → ⊥
+  cut told (IsCut.in_group after halted halts within printed) = not-incomplete text phase.Group (cause_of told halted.why) h printed
+  cut told (IsCut.in_laws found reduced x y basis within meets printed) = not-incomplete text phase.Laws (cause.Degree x y) h printed
+
+  tested : (bytes : List ℕ) (ending : Ending) (told : Told) → IsSystemText bytes told → IsTested told text ending → ⊥
+  tested bytes Done told denoted t = not-hold text h t.printed
+  tested bytes Denied told denoted t = not-denial told text (system-named bytes told denoted) h t
+  tested bytes Refused told denoted t = t
+  tested bytes Incomplete told denoted t = cut told t
+
+  of-laws : (bytes : List ℕ) (ending : Ending) → IsLawsAnswer bytes text ending → ⊥
+  of-laws bytes ending (AnswersTold.answered told denoted t) = tested bytes ending told denoted t
+  of-laws bytes ending (AnswersTold.refused line is printed) = not-refused text line h printed
+
+  -- ---- gen
+
+  phase-cut : (told : Told) → IsPhaseCut told text → ⊥
+  phase-cut told c = not-incomplete text (phase_of c.phase) (cause_of told c.why) h c.printed
+
+  found : (bytes : List ℕ) (ending : Ending) (told : Told) → IsSystemText bytes told → IsFound told text ending → IsHeadline command.Gen bytes text
+  found bytes Done told denoted t = record {
+    system = told.system;
+    fractions = t.fractions;
+    sound = complete-sound told.system t.fractions (no-section text (generator_lines told.system t.fractions) told.system h t.printed) t.complete;
+    shown = record { told = told; denoted = denoted; system = refl; printed = t.printed };
+  }
+  found bytes Denied told denoted t = absurd (not-gen_denial told text (system-named bytes told denoted) h t)
+  found bytes Refused told denoted t = absurd t
+  found bytes Incomplete told denoted t = absurd (phase-cut told t)
+
+  of-gen : (bytes : List ℕ) (ending : Ending) → IsGenAnswer bytes text ending → IsHeadline command.Gen bytes text
+  of-gen bytes ending (AnswersTold.answered told denoted t) = found bytes ending told denoted t
+  of-gen bytes ending (AnswersTold.refused line is printed) = absurd (not-refused text line h printed)
+
+pub headline : (asked : Command) (bytes text : List ℕ) (ending : Ending) → IsAnswer asked bytes text ending → EndsComplete text → IsHeadline asked bytes text
+headline command.Check bytes text ending a h = of-check text h bytes ending a
+headline command.Laws bytes text ending a h = absurd (of-laws text h bytes ending a)
+headline command.Gen bytes text ending a h = of-gen text h bytes ending a
