@@ -13,6 +13,3 @@ mod outcome;
 mod outcomes;
 
 pub use outcome::Outcome;
-
-#[cfg(test)]
-mod tests;
