@@ -1,5 +1,5 @@
 -- The names that the polynomials of a line may have.
-use Rattle.std.proofs.Common.{◌≡◌, refl, sym}
+use Rattle.std.proofs.Common.{◌≡◌, ℕ, List, refl, sym, ap, ◌∙◌}
 use Rattle.rinv_text.specs.Names.{copies}
 use Rattle.rinv_text.proofs.MadeNames.{suffixed-none}
 use Rattle.rinv_system.specs.declared.keyword.Keyword.{Keyword}
@@ -13,3 +13,7 @@ names_for-others d Product u p a s = absurd (p refl)
 names_for-others d Action u p a s = absurd (a refl)
 names_for-others d Section u p a s = absurd (s refl)
 names_for-others d k u p a s = sym (suffixed-none (group_names d))
+
+-- the section has those of the space
+pub names_for-section : (d : Draft) (k : Keyword) (ws : List (List ℕ)) → k ≡ Section → space_names d ≡ ws → names_for d k ≡ copies 1 ws
+names_for-section d k ws is same = ap (names_for d) is ∙ same ∙ sym (suffixed-none ws)

@@ -1,9 +1,8 @@
 -- A text has one system or one refusal, and not both.
-use Rattle.std.proofs.Common.{◌≡◌, ◌⊎◌, inl, inr, ℕ, List, IsTrue, refl, sym, ap, ◌∙◌}
-use Rattle.rinv_algebra.specs.Residue.{is_listed}
+use Rattle.std.proofs.Common.{◌≡◌, ◌⊎◌, inl, inr, ℕ, List, refl, sym, ap, ◌∙◌}
 use Rattle.rinv_text.specs.Told.{Told}
 use Rattle.rinv_system.specs.declared.refused.Refused.{Refused}
-use Rattle.rinv_system.specs.Drafts.{Draft, blank, modulus, is_whole}
+use Rattle.rinv_system.specs.Drafts.{Draft, blank, is_whole}
 use Rattle.rinv_system.specs.LineTexts as lines
 use Rattle.rinv_system.specs.Texts.{IsLineTaken, IsLineRefused, IsSystemText, IsRefusedText, told_by}
 use Rattle.rinv_system.specs.OneSystem.{HasOneSystem}

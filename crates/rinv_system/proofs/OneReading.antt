@@ -41,7 +41,7 @@ compared (z ∷ xs) x rest (w ∷ ys) y rest' e =
 some-none : {A B : Type 0} {x : A} → Some x ≡ None → B
 some-none {x = x} e = absurd (let f : Some x ≡ None = e in cc)
 
-record_at : ℕ → Code → Refused
+abbrev record_at : ℕ → Code → Refused
 record_at n code = record { line = n; code = code }
 
 -- ---- lines

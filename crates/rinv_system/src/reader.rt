@@ -1,10 +1,9 @@
 //! Texts that are read line by line: one loop for systems, and for all texts that begin as one.
 
-ghost use Rattle.std.specs.Prelude.{◌≡◌, ◌<◌, ◌-◌, ◌^◌, ℕ, List, Bool, None, IsTrue, length, IfOk, IfErr, OnOk};
-ghost use Rattle.std.specs.List.{list_all};
-ghost use Rattle.rinv_system.specs.Lines.{is_allowed, first_bad_line, contents_of};
+ghost use Rattle.std.specs.Prelude.{◌≡◌, ◌<◌, ◌-◌, ◌^◌, None, length, IfOk, IfErr};
+ghost use Rattle.rinv_system.specs.Lines.{first_bad_line, contents_of};
 ghost use Rattle.rinv_system.specs.LineTexts.{AreTaken, IsText, IsRefusedText};
-ghost use Rattle.rinv_system.specs.Stops.{OnCode, OnRefusal, stop_at};
+ghost use Rattle.rinv_system.specs.Stops.{OnRefusal, stop_at};
 
 use crate::lines::{content, first_bad_line, first_line};
 use crate::refused::{Code, LineStop, Refused, SystemStop};
@@ -12,6 +11,12 @@ use std::alloc::Global;
 
 /// What the lines of a text told so far.
 pub trait LineReader: Drop {
+    ghost use Rattle.std.specs.Prelude.{◌≡◌, ◌<◌, ◌-◌, ◌^◌, ℕ, List, Bool, IsTrue, length, IfErr, OnOk};
+    ghost use Rattle.std.specs.List.{list_all};
+    ghost use Rattle.rinv_system.specs.declared.refused.Code.{Code};
+    ghost use Rattle.rinv_system.specs.Lines.{is_allowed};
+    ghost use Rattle.rinv_system.specs.Stops.{OnCode};
+
     // What holds after lines that were taken.
     ghost is_reached: { Self → Type 0 };
 
