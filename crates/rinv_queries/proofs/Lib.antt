@@ -4,3 +4,4 @@ pub mod Pages
 pub mod Endings
 pub mod FromPieces
 pub mod KnownFacts
+pub mod Asked

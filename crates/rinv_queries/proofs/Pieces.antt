@@ -2,13 +2,15 @@
 --   symbols-number       there is a symbol for each generator
 --   put-behind           a word, a number and what follows, as a format writes them
 --   regrouped            pieces that were put behind one another
+--   none-shown           where there are no generators
 --   laws-line .. vanishing-line    the line of each outcome
 use Rattle.std.proofs.Common.{◌≡◌, ℕ, zero, suc, ◌+◌, List, [], ◌∷◌, ◌++◌, length, refl, sym, ap, ap₂, ◌∙◌, arith, append_assoc, append-nil, length-append}
 use Rattle.std.specs.Prelude.{codes, decimal}
 use Rattle.rinv_defs.specs.System.{System, Poly}
-use Rattle.rinv_defs.specs.Text.{poly_text, fraction_text}
+use Rattle.rinv_defs.specs.Text.{poly_text, fraction_text, fraction_lines}
 use Rattle.rinv_defs.specs.Generators.{Expression}
 use Rattle.rinv_text.specs.Names.{symbols}
+use Rattle.rinv_answers.specs.GeneratorLines.{generator_lines}
 use Rattle.rinv_queries.specs.declared.outcome.Outcome.TheVariants.{LawsHold, GeneratorsShown, Invariant, NotInvariant, Rewritten, NotRewritten, Vanishing}
 use Rattle.rinv_queries.specs.Lines.{outcome_line}
 
@@ -28,6 +30,11 @@ regrouped out head text end first second a b = b ∙ ap (λ (w : List ℕ). w ++
   where
     go : (o h t n : List ℕ) → (o ++ h) ++ (t ++ n) ≡ o ++ ((h ++ t) ++ n)
     go o h t n = simp append_assoc
+
+-- where there are no generators, none are shown
+pub none-shown : (s : System) (out : List ℕ) → out ≡ out ++ generator_lines s []
+unfolding fraction_lines
+none-shown s out = sym (append-nil out)
 
 -- ---- the line of each outcome
 

@@ -1,5 +1,5 @@
 use Rattle.std.proofs.Common.{◌∙◌, ◌++◌, ap}
-use Rattle.rinv_text.specs.Names.{meet}
+use Rattle.rinv_text.specs.Names.{meet, symbols}
 use Rattle.rinv_text.specs.Told.{Told}
 use Rattle.rinv_text.proofs.SystemParts.{parts-of}
 use Rattle.rinv_system.proofs.GoodNames.{are_names-apart}
@@ -13,5 +13,5 @@ joined-requires c =
 pub returns : goal.returns
 returns c = record {
   changes = c.in_ok-changes.ensures ∙ ap (λ (t : Told). t.system.group ++ t.system.space) c.system.view_is;
-  symbols = ?;
+  symbols = c.in_ok-symbols.ensures ∙ ap symbols c.in-Ok.ensures.1;
 }

@@ -5,4 +5,4 @@ use Rattle.rinv_queries.proofs.Pages.{any-image}
 use Rattle.rinv_queries.proofs.needs.need_generators.Goals as goal
 
 pub returns : goal.returns
-returns c = ? ∙ any-image needs_generators query_of c.args.queries.now
+returns c = c.some_needs.ensures ∙ any-image needs_generators query_of c.args.queries.now
