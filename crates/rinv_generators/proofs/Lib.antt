@@ -1,0 +1,3 @@
+mod ProvedFractions
+mod Stopping
+mod Together
