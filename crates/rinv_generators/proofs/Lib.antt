@@ -1,3 +1,4 @@
 mod ProvedFractions
 mod Stopping
 mod Together
+mod MetInProofs

@@ -20,9 +20,9 @@ use Rattle.rinv_gens.specs.declared.kinds.Phase.{Phase}
 use Rattle.rinv_gens.specs.declared.kinds.Phase.TheVariants.{Laws, Tail}
 use Rattle.rinv_gens.specs.declared.kinds.GenStop.{GenStop}
 use Rattle.rinv_gens.specs.declared.kinds.GenStop.TheVariants as stop
-use Rattle.rinv_gens.specs.Halts.{GenStopsSo, HaltsIn}
+use Rattle.rinv_gens.specs.Halts.{GenStopsSo}
 use Rattle.rinv_generators.specs.Proving.{AreDegrees, AssemblyStopsSo, FractionsMeet, HaltsAfter, InvarianceStopsSo}
-use Rattle.rinv_generators.specs.Stops.{AreRun, NeverMissesSo, ProvingHaltsIn, StopsSo}
+use Rattle.rinv_generators.specs.Stops.{AreRun, NeverMissesSo, StopsSo, WorkHaltsIn}
 
 -- a stop before the proofs
 pub pieces-stop : (told : Told) (e : GenStop) → GenStopsSo told e → StopsSo told e
@@ -45,7 +45,7 @@ module _ (told : Told) (group action : Found ℕ) (run : AreRun told group actio
   laws-stop (stop.Law fault) h = absurd h
   laws-stop (stop.Missed element) h = absurd h
   laws-stop (stop.Incomplete halted journal why) (at, entries, x, y, cause, meets) =
-      subst (λ (p : Phase). HaltsIn told p (journal_of journal.items) why ⊎ ProvingHaltsIn told p (journal_of journal.items) why) (sym at)
+      subst (λ (p : Phase). WorkHaltsIn told p (journal_of journal.items) why) (sym at)
       (inr (record { group = group; action = action; are_run = run; entries = entries; x = x; y = y; cause = cause; meets = meets }))
   laws-stop stop.NoMemory h = tt
 
@@ -54,7 +54,7 @@ module _ (told : Told) (group action : Found ℕ) (run : AreRun told group actio
   invariance-stop relations basis cs are (stop.Law fault) h = absurd h
   invariance-stop relations basis cs are (stop.Missed element) h = absurd h
   invariance-stop relations basis cs are (stop.Incomplete halted journal why) (at, entries, x, y, cause, meets) =
-      subst (λ (p : Phase). HaltsIn told p (journal_of journal.items) why ⊎ ProvingHaltsIn told p (journal_of journal.items) why) (sym at)
+      subst (λ (p : Phase). WorkHaltsIn told p (journal_of journal.items) why) (sym at)
       (inr (record {
         group = group;
         action = action;

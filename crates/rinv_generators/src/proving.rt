@@ -79,7 +79,8 @@ fn invariance_proofs(
     }
     let cofactors = kept_cofactors(alloc, system, group)?;
     'fractions: for k in 0..fractions.len() {
-        let proof = invariance_proof(alloc, system, group, &cofactors, &fractions[k])?;
+        let fraction = &fractions[k];
+        let proof = invariance_proof(alloc, system, group, &cofactors, fraction)?;
         proofs.push(proof)?;
     }
     Ok(proofs)
