@@ -62,7 +62,7 @@ pub fn assemble(
     ensures handed_back { IfErr result (λ e. e.0 ≡ system) }
     ensures stop { IfErr result (λ e. AssemblyStopsSo system.system group.basis action monic e.1) }
 {
-    match assembled(alloc, &system, &group, &action, &monic) {
+    match rest_of(alloc, &system, &group, &action, &monic) {
         Ok(rest) => {
             let Assembled {
                 relations,
@@ -87,7 +87,7 @@ pub fn assemble(
 }
 
 // The coefficients numbered, the proofs, and the journal of both runs.
-fn assembled(
+fn rest_of(
     alloc: Global,
     system: &System,
     group: &GroupBasis,

@@ -27,8 +27,8 @@ const PROVED: [(LawName, usize); 6] = [
     (LawName::L2, 1),
     (LawName::L3, 1),
     (LawName::L4, 2),
-    (LawName::L5, 2),
-    (LawName::L6, 2),
+    (LawName::L5, 4),
+    (LawName::L6, 4),
     (LawName::A2, 2),
 ];
 
