@@ -1,8 +1,8 @@
 -- Worked texts, of which the first alone ends with the line `complete`.
 use Rattle.std.proofs.Common.{◌≡◌, refl, ap, get_or, arith}
-use Rattle.std.specs.Prelude.{ℕ, List, [], ◌∷◌, codes}
+use Rattle.std.specs.Prelude.{[], ◌∷◌, codes}
 use Rattle.rinv_commands.specs.Headline.{EndsComplete}
-use Rattle.rinv_commands.proofs.LastLines.{agree, complete_back, ends-otherwise, one-line}
+use Rattle.rinv_commands.proofs.LastLines.{ends-otherwise, one-line}
 
 ends_so : EndsComplete (codes "y1 = x^2 + y^2\ncomplete\n")
 ends_so = record { before = codes "y1 = x^2 + y^2" ∷ []; whole = refl }
