@@ -1,0 +1,13 @@
+pub mod DivisionRests
+pub mod WorkedTerms
+pub mod TiedRelations
+pub mod BasesInSteps
+pub mod SearchedCoefficients
+pub mod CoefficientValues
+pub mod DownMonomials
+pub mod CommonFactors
+pub mod VanishingRests
+pub mod Choices
+pub mod ExpressingFaults
+pub mod AnswerClauses
+pub mod Expressed

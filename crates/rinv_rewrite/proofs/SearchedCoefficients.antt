@@ -1,0 +1,73 @@
+-- The coefficient of a stored polynomial at a monomial, as its terms are searched.
+--   compared-equal, compared-other    what a comparison says
+--   IsPassed, passed-more    the first terms have other monomials
+--   found-coefficient        the term that has it
+--   none-found               no term has it
+use Rattle.std.proofs.Common.{◌≡◌, ◌<◌, ◌≤◌, ◌+◌, ◌==◌, ℕ, zero, suc, Bool, true, false, List, [], ◌∷◌, length, get_or, sym, ap, ◌∙◌, subst, inl, inr, arith, All, IsTrue, true≢false}
+use Rattle.std.specs.Ordering.{ordering_index, is_eq}
+use Rattle.std.specs.declared.cmp.Ordering.{Ordering}
+use Rattle.std.proofs.lemmas.Bool.{cases_lt, cases_Bool}
+use Rattle.std.proofs.lemmas.Cmp.{is_eq_index}
+use Rattle.std.proofs.lemmas.List.{get_or_default}
+use Rattle.rinv_algebra.specs.Ring.{RingOps, RingLaws, IsSame}
+use Rattle.rinv_algebra.specs.Monomial.{same_monomial}
+use Rattle.rinv_algebra.specs.Order.{lex}
+use Rattle.rinv_algebra.specs.Polynomial.{Term, Polynomial, coefficient}
+use Rattle.rinv_algebra.specs.Normal.{IsNormal}
+use Rattle.rinv_algebra.proofs.MonomialLaws.{same_monomial-of_length}
+use Rattle.rinv_algebra.proofs.RingFacts as facts
+use Rattle.rinv_algebra.proofs.Same.{IsAbsent, coefficient-absent}
+use Rattle.rinv_poly.proofs.Forms.{IsNormalTerm, ordered-from_normal}
+use Rattle.rinv_poly.proofs.Lexicographic.{lex_equal, lex_itself}
+use Rattle.rinv_poly.proofs.NormalFacts.{coefficient-of_term}
+
+-- two monomials that compare as equal are
+pub compared-equal : (a b : List ℕ) (x : Ordering) (r : Bool) → x ≡ lex a b → r ≡ (ordering_index x == 1) → r ≡ true → a ≡ b
+compared-equal a b x r is e h = lex_equal a b (ap is_eq (sym is) ∙ is_eq_index x ∙ sym e ∙ h)
+
+-- and others are not
+pub compared-other : (a b : List ℕ) (x : Ordering) (r : Bool) → x ≡ lex a b → r ≡ (ordering_index x == 1) → r ≡ false → ¬ (a ≡ b)
+compared-other a b x r is e h same = true≢false (sym (ap is_eq (lex_itself b)) ∙ ap (λ (m : List ℕ). is_eq (lex m b)) (sym same) ∙ ap is_eq (sym is) ∙ is_eq_index x ∙ sym e ∙ h)
+
+module _ {E : Type 0} where
+  -- the first k terms have other monomials
+  abbrev pub IsPassed : List ℕ → Polynomial E → ℕ → Type 0
+  IsPassed m f k = (i : ℕ) (d : Term E) → i < k → ¬ ((get_or f i d).0 ≡ m)
+
+  pub passed-more : (m : List ℕ) (f : Polynomial E) (k : ℕ) (a : List ℕ) → ((t : Term E) → a ≡ (get_or f k t).0) → IsPassed m f k → ¬ (a ≡ m) → IsPassed m f (k + 1)
+  passed-more m f k a at so_far here i d low = elim (cases_lt i k) [
+    | inl before ↦ so_far i d before
+    | inr after ↦ let last : k ≡ i = omega (arith, low, after) in λ e. here (at d ∙ ap (λ (j : ℕ). (get_or f j d).0) last ∙ e)
+  ]
+
+module _ {E : Type 0} (o : RingOps E) (l : RingLaws o) (is_element : E → Bool) (v : ℕ) (f : Polynomial E) (normal : IsNormal o is_element v f) (m : List ℕ) where
+  -- the term that has it
+  module _ (k : ℕ) (c : E) (a : List ℕ) (few : k < length f) (monomial : (t : Term E) → a ≡ (get_or f k t).0) (element : (t : Term E) → c ≡ (get_or f k t).1) where
+    pub found-element : IsTrue (is_element c)
+    found-element = let t : Term E = (a, c) in subst (λ (x : E). IsTrue (is_element x)) (sym (element t)) ((ordered-from_normal o is_element v f normal).terms k t few).coefficient
+
+    pub found-coefficient : a ≡ m → IsSame o c (coefficient o f m)
+    found-coefficient e =
+        let d : Term E = (a, c) in
+        let t : Term E = get_or f k d in
+        let at : IsSame o (coefficient o f t.0) t.1 = coefficient-of_term o l is_element v f (ordered-from_normal o is_element v f normal) t (k, few, sym (get_or_default f k d t few)) in
+        subst (λ (x : E). IsSame o x (coefficient o f m)) (sym (element d))
+        (subst (λ (b : List ℕ). IsSame o t.1 (coefficient o f b)) (sym (monomial d) ∙ e) (l.same_sym (coefficient o f t.0) t.1 at))
+
+  -- no term has it
+  pub none-found : length m ≡ v → (k : ℕ) → length f ≤ k → IsPassed m f k → (z : E) → IsSame o z o.zero → IsSame o z (coefficient o f m)
+  none-found long k whole passed z is =
+      subst (λ (x : E). IsSame o z x) (sym (coefficient-absent o m f (absent f (λ i d low. (ordered-from_normal o is_element v f normal).terms i d low) (λ i d low. passed i d (omega (arith, low, whole)))))) is
+    where
+      absent : (g : Polynomial E) → All (IsNormalTerm o is_element v) g → IsPassed m g (length g) → IsAbsent m g
+      absent [] terms h = tt
+      absent (t ∷ g) terms h = (
+        other t.0 (terms zero t (omega arith)).vars (h zero t (omega arith)),
+        absent g (λ i d low. terms (suc i) d (omega (arith, low))) (λ i d low. h (suc i) d (omega (arith, low))),
+      )
+        where
+          other : (a : List ℕ) → length a ≡ v → ¬ (a ≡ m) → same_monomial a m ≡ false
+          other a la differ = elim (cases_Bool (same_monomial a m)) [
+            | inl here ↦ absurd (differ (same_monomial-of_length a m (la ∙ sym long) here))
+            | inr off ↦ off
+          ]

@@ -1,0 +1,5 @@
+//! Tests of rewriting.
+#![tactic(auto)]
+
+#[cfg(test)]
+mod rewriting;
