@@ -4,11 +4,15 @@
 --   put-together         what was found, with its proofs
 --   sound-generators     without a section the generators are sound
 --   runs-within          the journal of both runs
+--   numbered-over        what is numbered in a ring that is the system's
 use Rattle.std.proofs.Common.{◌≡◌, ◌<◌, ◌-◌, ◌^◌, ℕ, List, [], ◌∷◌, ◌++◌, map, refl, sym, ap, subst, ◌∙◌, All}
 use Rattle.std.proofs.lemmas.List.Elements.{All-map}
-use Rattle.rinv_defs.specs.System.{System, Poly}
+use Rattle.std.specs.List.{AllZip}
+use Rattle.rinv_defs.specs.System.{System, Poly, space_count}
 use Rattle.rinv_defs.specs.Laws.{Law}
-use Rattle.rinv_defs.specs.Invariant.{IsInvariant}
+use Rattle.rinv_defs.specs.Invariant.{Fraction, IsInvariant}
+use Rattle.rinv_defs.specs.Extended.{Relation}
+use Rattle.rinv_frac.specs.Fractions.{IsStored}
 use Rattle.rinv_defs.specs.Generators.{IsSound}
 use Rattle.rinv_text.specs.Told.{Told}
 use Rattle.rinv_groebner.specs.Journal.{Entry}
@@ -16,14 +20,15 @@ use Rattle.rinv_buch.specs.Kinds.{Found}
 use Rattle.rinv_parts.specs.LawNames.{law_of}
 use Rattle.rinv_laws.specs.declared.proving.LawProofs.{LawProofs}
 use Rattle.rinv_laws.specs.Proofs.{ProvesLaw, proved_laws}
-use Rattle.rinv_coefficients.specs.Coefficients.{AreGenerators}
+use Rattle.rinv_coefficients.specs.Coefficients.{AreGenerators, generators_of}
+use Rattle.rinv_coefficients.specs.Ties.{TiedRelation, Ties}
 use Rattle.rinv_coefficients.proofs.Invariant.{generators_invariant}
 use Rattle.rinv_coefficients.proofs.Sound.{generators_sound}
 use Rattle.rinv_gens.specs.declared.kinds.Findings.{Findings}
 use Rattle.rinv_gens.specs.Runs.{BothEnd, IsWithin}
 use Rattle.rinv_gens.proofs.Within.{two}
 use Rattle.rinv_generators.specs.Generated.{Generated, IsGenerators, ProveLaws}
-use Rattle.rinv_generators.specs.Made.{AreProved, laws_of}
+use Rattle.rinv_generators.specs.Made.{AreNumbered, AreProved, laws_of}
 
 firsts : {X : Type 0} {Y : Type 0} (f : X → Law) (g : X → Y) (xs : List X) → map (λ (e : Law × Y). e.0) (map (λ x. (f x, g x)) xs) ≡ map f xs
 firsts f g [] = refl
@@ -84,3 +89,12 @@ pub runs-within : (told : Told) (group action : Found ℕ) (journal : List Entry
     → told.pairs < 2 ^ 32 - 1 → told.steps < 2 ^ 64 - 1 → IsWithin told journal
 runs-within told group action journal ends entries pairs steps =
     subst (IsWithin told) (sym entries) (two told pairs steps group.journal action.journal 0 ends.left ends.after ends.group_ends.spent ends.spent ends.kept)
+
+-- what is numbered in a ring that is the system's
+pub numbered-over : (s : System) (monic : List Relation) (rs : List TiedRelation) (cs : List Fraction) (p v : ℕ) → p ≡ s.p → v ≡ space_count s
+    → cs ≡ generators_of p monic → All (IsStored p v) cs → AllZip (Ties p cs) rs monic → AreNumbered s monic rs cs
+numbered-over s monic rs cs p v e f are stored ties = record {
+  are = subst (λ q. cs ≡ generators_of q monic) e are;
+  stored = subst (λ q. All (IsStored q (space_count s)) cs) e (subst (λ w. All (IsStored p w) cs) f stored);
+  ties = subst (λ q. AllZip (Ties q cs) rs monic) e ties;
+}

@@ -129,7 +129,8 @@ fn numbered_of(
     ensures numbered { IfOk result (λ n. AreNumbered system.now.system monic.now n.relations.items n.fractions.items) }
     ensures stop { IfErr result (AssemblyStopsSo system.now.system group.now.basis action.now monic.now) }
 {
-    let field = FracRing::new(PolyRing::new(system.field, system.space.len()));
+    let ring = PolyRing::new(system.field, system.space.len());
+    let field = FracRing::new(ring);
     match number_coefficients(&field, alloc, monic) {
         Ok(numbered) => Ok(numbered),
         Err(RingFault::Degree { left, right }) => {
