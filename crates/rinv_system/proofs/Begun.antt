@@ -14,7 +14,8 @@ use Rattle.rinv_system.proofs.Good.{IsGood, AreTaken-good}
 pub record IsBegun (d : Draft) : Type 0 where
   pub begun : IsTrue (has_begun d)
   pub listed : IsTrue (is_listed (modulus d))
-  pub plain : list_any has_prime (group_names d) ≡ false
+  pub group : list_any has_prime (group_names d) ≡ false
+  pub space : list_any has_prime (space_names d) ≡ false
   pub apart : meet (group_names d) (space_names d) ≡ false
 
 not_missing : (b : Bool) (code : Code) (rest : Option Code) → (if not b then Some code else rest) ≡ None → b ≡ true
@@ -27,16 +28,17 @@ begun-first d TellsPolynomials.unit_line order = not_missing (has_begun d) _ _ o
 begun-first d TellsPolynomials.product_line order = not_missing (has_begun d) _ _ order
 begun-first d TellsPolynomials.inverse_line order = not_missing (has_begun d) _ _ order
 begun-first d TellsPolynomials.action_line order = not_missing (has_begun d) _ _ order
+begun-first d TellsPolynomials.section_line order = not_missing (has_begun d) _ _ order
 
 false_true : {A : Type 0} → false ≡ true → A
 false_true e = absurd (cc)
 
-begun-good : {d : Draft} → IsGood d → has_begun d ≡ true → IsBegun d
+pub begun-good : {d : Draft} → IsGood d → has_begun d ≡ true → IsBegun d
 begun-good IsGood.start h = false_true h
 begun-good (IsGood.with_field p listed) h = false_true h
 begun-good (IsGood.with_group p group listed names) h = false_true h
 begun-good (IsGood.begun p group space d form) h =
-    record { begun = h; listed = form.listed; plain = are_names-plain _ group form.group_form.form; apart = are_names-apart group space form.space_form.form }
+    record { begun = h; listed = form.listed; group = are_names-plain _ group form.group_form.form; space = are_names-plain group space form.space_form.form; apart = are_names-apart group space form.space_form.form }
 
 -- a line of polynomials that may come
 pub begun-of_order : {k : Keyword} (d : Draft) → IsReached d → TellsPolynomials k → order_fault d k ≡ None → IsBegun d

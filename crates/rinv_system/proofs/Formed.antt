@@ -12,9 +12,9 @@ use Rattle.rinv_system.specs.Texts.{IsSystemText, system_of}
 use Rattle.rinv_system.proofs.GoodLists.{are_normal, are_so_many}
 use Rattle.rinv_system.proofs.Good.{IsGood, HasForm, AreGoodNames, with_first, AreTaken-good}
 
--- eight conditions, and two that hold of no section
-all-of : (a b c d e f g h : Bool) → a ≡ true → b ≡ true → c ≡ true → d ≡ true → e ≡ true → f ≡ true → g ≡ true → h ≡ true → ((a && (b && (c && (d && (e && (f && (g && (h && true)))))))) && true && true) ≡ true
-all-of a b c d e f g h p q r s t u v w = rw (p, q, r, s, t, u, v, w) refl
+-- eight conditions, and two of the section
+all-of : (a b c d e f g h i j : Bool) → a ≡ true → b ≡ true → c ≡ true → d ≡ true → e ≡ true → f ≡ true → g ≡ true → h ≡ true → (i && j) ≡ true → ((a && (b && (c && (d && (e && (f && (g && (h && true)))))))) && i && j) ≡ true
+all-of a b c d e f g h i j p q r s t u v w x = rw (p, q, r, s, t, u, v, w) x
 
 at_least-one : (n : ℕ) → 1 ≤ n → nat_le 1 n ≡ true
 at_least-one n h = grind (arith, nat_tests)
@@ -43,17 +43,18 @@ module _ (p : ℕ) (group space : List (List ℕ)) (d : Draft) (form : HasForm p
   begun-formed : IsSystem (system_of (with_first p group space d))
   begun-formed =
       let l = length group in let n = length space in
-      all-of _ _ _ _ _ _ _ _ form.listed (named form.group_form) (named form.space_form)
+      all-of _ _ _ _ _ _ _ _ _ _ form.listed (named form.group_form) (named form.space_form)
       (or_empty (λ fs. nat_le (length fs) 64 && are_normal p l fs) d.ideal [] refl form.ideal)
       (of_part (λ cs. length cs == l && list_all (λ c. nat_lt c p) cs) d.unit [] parts.0 form.unit)
       (of_part (are_so_many p l (2 * l)) d.product [] parts.1 form.product)
       (of_part (are_so_many p l l) d.inverse [] parts.2 form.inverse)
       (of_part (are_so_many p n (l + n)) d.action [] parts.3 form.action)
+      (or_empty (λ fs. nat_le (length fs) 64 && are_normal p n fs) d.section [] refl form.section)
 
 false_true : {A : Type 0} → false ≡ true → A
 false_true e = absurd (cc)
 
-good-formed : {d : Draft} → IsGood d → is_whole d ≡ true → IsSystem (system_of d)
+pub good-formed : {d : Draft} → IsGood d → is_whole d ≡ true → IsSystem (system_of d)
 good-formed IsGood.start h = false_true h
 good-formed (IsGood.with_field p listed) h = false_true h
 good-formed (IsGood.with_group p group listed names) h = false_true h
@@ -61,4 +62,4 @@ good-formed (IsGood.begun p group space d form) h = begun-formed p group space d
 
 -- each text's system has its form
 pub IsSystemText-formed : (text : List ℕ) (told : Told) → IsSystemText text told → IsSystem told.system
-IsSystemText-formed text told h = subst (λ t. IsSystem t.system) (sym h.is) (good-formed (AreTaken-good h.taken) h.whole)
+IsSystemText-formed text told h = subst (λ t. IsSystem t.system) (sym h.is) (good-formed (AreTaken-good h.is_text.taken) h.is_text.whole)

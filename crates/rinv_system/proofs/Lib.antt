@@ -1,4 +1,6 @@
 mod LineFacts
+pub mod Allowed
+pub mod OneReading
 pub mod EntryFacts
 pub mod NumberFacts
 pub mod Mapped
@@ -19,7 +21,6 @@ pub mod FirstFaults
 pub mod Verdicts
 pub mod OneDraft
 pub mod OneNext
-pub mod OneText
 pub mod SomeOutcome
 pub mod OneOutcome
 mod WrittenLists

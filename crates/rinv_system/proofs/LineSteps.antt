@@ -9,7 +9,7 @@ use Rattle.rinv_algebra.specs.Normal.{IsNormal, is_normal}
 use Rattle.rinv_defs.specs.System.{Poly}
 use Rattle.rinv_text.specs.Tokens.{number_of}
 use Rattle.rinv_system.specs.declared.keyword.Keyword.{Keyword}
-use Rattle.rinv_system.specs.declared.keyword.Keyword.TheVariants.{Field, Group, Space, Ideal, Unit as AtUnit, Product, Inverse, Action, Pairs, Steps}
+use Rattle.rinv_system.specs.declared.keyword.Keyword.TheVariants.{Field, Group, Space, Ideal, Unit as AtUnit, Product, Inverse, Action, Section, Pairs, Steps}
 use Rattle.rinv_system.specs.Entries.{entries_of}
 use Rattle.rinv_system.specs.Drafts.{Draft, modulus, names_for, length_fault}
 use Rattle.rinv_system.specs.Forms.{TellsNumber, TellsNames, TellsPolynomials, AreEntries, IsRestTaken, with_number, with_polynomials, is_number_for}
@@ -38,6 +38,7 @@ polynomials-others AtUnit f g s p t = TellsPolynomials.unit_line
 polynomials-others Product f g s p t = TellsPolynomials.product_line
 polynomials-others Inverse f g s p t = TellsPolynomials.inverse_line
 polynomials-others Action f g s p t = TellsPolynomials.action_line
+polynomials-others Section f g s p t = TellsPolynomials.section_line
 
 module _ (d : Draft) (k : Keyword) (rest : List ℕ) (fs : List Poly) (right : length_fault d k (length (entries_of rest)) ≡ None) (are : AreEntries (modulus d) (names_for d k) (entries_of rest) fs) where
   -- polynomials

@@ -45,7 +45,7 @@ drop-short k bs = omega (arith, length-drop k bs)
 take-short : (k : ℕ) (bs : List ℕ) → length (take k bs) ≤ length bs
 take-short k bs = omega (arith, length-take k bs)
 
-rest_of-short : (line : List ℕ) → length (rest_of line) ≤ length line
+pub rest_of-short : (line : List ℕ) → length (rest_of line) ≤ length line
 rest_of-short line =
     let outer : length (rest_of line) ≤ length (drop (position_or_len is_blank line) line) = drop-short _ (drop (position_or_len is_blank line) line) in
     omega (arith, outer, drop-short (position_or_len is_blank line) line)

@@ -1,4 +1,4 @@
--- A text has a system or a refusal.
+-- A line is taken or refused.
 use Rattle.std.proofs.Common.{◌≡◌, ◌⊎◌, inl, inr, ℕ, ◌^◌, List, [], ◌∷◌, ◌++◌, length, IsTrue, Option, Some, None, refl, sym, subst, ap, ◌∙◌, append_assoc, append-nil, arith}
 use Rattle.std.specs.List.{All, list_all}
 use Rattle.std.proofs.lemmas.Bool.{cases_Bool, cases_lt, le-leb}
@@ -7,25 +7,20 @@ use Rattle.rinv_algebra.specs.Residue.{is_listed}
 use Rattle.rinv_defs.specs.System.{Poly}
 use Rattle.rinv_ring.specs.declared.modulus.FieldFault.TheVariants.{TooSmall, TooLarge, NotListed}
 use Rattle.rinv_text.specs.declared.fault.TextCode.TheVariants.{Expression, Name, Limit}
-use Rattle.rinv_text.specs.Told.{Told}
 use Rattle.rinv_text.specs.Tokens.{number_of}
 use Rattle.rinv_text.specs.Names.{is_new_name}
 use Rattle.rinv_text.proofs.OneReading.{has_one_reading}
 use Rattle.rinv_text.proofs.Readable.{has_polynomial}
 use Rattle.rinv_system.specs.declared.keyword.Keyword.{Keyword}
-use Rattle.rinv_system.specs.declared.keyword.Keyword.TheVariants.{Field, Group, Space, Ideal, Unit as AtUnit, Product, Inverse, Action, Pairs, Steps}
+use Rattle.rinv_system.specs.declared.keyword.Keyword.TheVariants.{Field, Group, Space, Ideal, Unit as AtUnit, Product, Inverse, Action, Section, Pairs, Steps}
 use Rattle.rinv_system.specs.declared.refused.Code.{Code}
 use Rattle.rinv_system.specs.declared.refused.Code.TheVariants.{Field as InField, Text, Word}
-use Rattle.rinv_system.specs.declared.refused.Refused.{Refused}
-use Rattle.rinv_system.specs.Lines.{first_bad_line}
 use Rattle.rinv_system.specs.Words.{head_of}
 use Rattle.rinv_system.specs.Entries.{entries_of, words_of, is_name_word, is_numeral}
-use Rattle.rinv_system.specs.Drafts.{Draft, blank, modulus, names_for, order_fault, length_fault, is_whole}
+use Rattle.rinv_system.specs.Drafts.{Draft, modulus, names_for, order_fault, length_fault}
 use Rattle.rinv_system.specs.Forms.{IsFieldFault, HasOldName, AreNewNames, AreEntries, IsSomeExpression, IsFirstFault, TellsNumber, TellsNames, TellsPolynomials, IsRestRefused, IsRestTaken, max_pairs, max_steps}
-use Rattle.rinv_system.specs.Texts.{AreTaken, IsLineTaken, IsLineRefused, IsSystemText, IsRefusedText, contents_of, told_by}
+use Rattle.rinv_system.specs.Texts.{IsLineTaken, IsLineRefused}
 use Rattle.rinv_system.proofs.FirstFaults.{IsAccepted, all_decided}
-use Rattle.rinv_system.proofs.Good.{AreTaken-good}
-use Rattle.rinv_system.proofs.OneText.{good-listed}
 
 -- one element is taken to what stands before the others
 moved : {A : Type 0} {all : List A} (before : List A) (x : A) (after : List A) → all ≡ before ++ x ∷ after → all ≡ (before ++ x ∷ []) ++ after
@@ -137,6 +132,7 @@ module _ (d : Draft) (rest : List ℕ) where
     rest_outcome Product = polynomials_outcome TellsPolynomials.product_line
     rest_outcome Inverse = polynomials_outcome TellsPolynomials.inverse_line
     rest_outcome Action = polynomials_outcome TellsPolynomials.action_line
+    rest_outcome Section = polynomials_outcome TellsPolynomials.section_line
 
 -- ---- a line
 
@@ -158,31 +154,6 @@ module _ (d : Draft) (listed : IsTrue (is_listed (modulus d))) where
       by_head None e = inr (Word, IsLineRefused.no_word some e)
       by_head (Some (k, rest)) e = by_order k rest e (order_fault d k) refl
 
-  line_outcome : (line : List ℕ) → LineOutcome d line
+  pub line_outcome : (line : List ℕ) → LineOutcome d line
   line_outcome [] = inl (d, IsLineTaken.empty refl)
   line_outcome (b ∷ bs) = filled_outcome (b ∷ bs) (λ e. let f : length (b ∷ bs) ≡ 0 = ap length e in omega (arith, f))
-
--- ---- the text
-
-module _ (text : List ℕ) where
-  abbrev Outcome : Type 0
-  Outcome = ((told : Told) × IsSystemText text told) ⊎ ((refused : Refused) × IsRefusedText text refused)
-
-  lines_outcome : first_bad_line text ≡ None → (before : List (List ℕ)) (d : Draft) → AreTaken blank before d → (rest : List (List ℕ)) → contents_of text ≡ before ++ rest → Outcome
-  lines_outcome good before d taken [] e =
-      let all : AreTaken blank (contents_of text) d = subst (λ ls. AreTaken blank ls d) (sym (e ∙ append-nil before)) taken in
-      elim (cases_Bool (is_whole d)) [
-        | inl whole ↦ inl (told_by d, record { good_bytes = good; draft = d; taken = all; whole = whole; is = refl })
-        | inr missing ↦ inr (_, IsRefusedText.unfinished good all missing)
-      ]
-  lines_outcome good before d taken (line ∷ after) e = elim (line_outcome d (good-listed (AreTaken-good taken)) line) [
-    | inl (next, made) ↦ lines_outcome good (before ++ line ∷ []) next (AreTaken.one_more line taken made) after (moved before line after e)
-    | inr (code, refused) ↦ inr (_, IsRefusedText.bad_line before line after good e taken refused)
-  ]
-
-  pub has_outcome : Outcome
-  has_outcome = by_bytes (first_bad_line text) refl
-    where
-      by_bytes : (o : Option ℕ) → first_bad_line text ≡ o → Outcome
-      by_bytes (Some n) e = inr (_, IsRefusedText.bad_byte e)
-      by_bytes None e = lines_outcome e [] blank AreTaken.none (contents_of text) refl

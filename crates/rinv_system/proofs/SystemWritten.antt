@@ -3,7 +3,7 @@ use Rattle.std.proofs.Common.{◌≡◌, ℕ, ◌+◌, ◌*◌, ◌==◌, false,
 use Rattle.rinv_defs.specs.System.{System, Poly}
 use Rattle.rinv_text.specs.Names.{copies}
 use Rattle.rinv_text.specs.Told.{Told}
-use Rattle.rinv_system.specs.Written.{numbers_text, polynomials_text, line_text, first_lines, ideal_lines, product_line, inverse_line, action_line, map_lines, budget_lines, text_of, system_text}
+use Rattle.rinv_system.specs.Written.{numbers_text, polynomials_text, line_text, first_lines, ideal_lines, product_line, inverse_line, action_line, map_lines, section_lines, budget_lines, text_of, system_text}
 use Rattle.rinv_system.specs.Writing.{AreOver, AppendsPolynomialsLine}
 use Rattle.rinv_system.proofs.GoodLists.{length-two_copies}
 use Rattle.rinv_text.proofs.SystemParts.{HasParts, AreNormal}
@@ -31,6 +31,12 @@ module _ (s : System) (form : HasParts s) where
   pub ideal-line : (old new : List ℕ) → (length s.ideal == 0) ≡ false → AppendsPolynomialsLine (codes "ideal") s.group s.ideal old new → new ≡ old ++ text_of (ideal_lines s)
   ideal-line old new some h = rw some (line-more old old new (line_text (codes "ideal") (polynomials_text s.p s.group s.ideal)) [] (no-line old old refl) (h s.p form.listed form.ideal))
 
+  pub section-over : AreNormal s.p (length s.space) s.section → All (AreOver (length s.space)) s.section
+  section-over normal = over-stored s.p (length s.space) s.section normal
+
+  pub section-line : AreNormal s.p (length s.space) s.section → (old new : List ℕ) → (length s.section == 0) ≡ false → AppendsPolynomialsLine (codes "section") s.space s.section old new → new ≡ old ++ text_of (section_lines s)
+  section-line normal old new some h = rw some (line-more old old new (line_text (codes "section") (polynomials_text s.p s.space s.section)) [] (no-line old old refl) (h s.p form.listed normal))
+
   -- polynomials over names that are as long
   at-names : (word : List ℕ) (names names' : List (List ℕ)) (fs : List Poly) (v : ℕ) (old new : List ℕ) → names ≡ names' → length names' ≡ v → AreNormal s.p v fs → AppendsPolynomialsLine word names fs old new
       → new ≡ old ++ (line_text word (polynomials_text s.p names' fs) ++ codes "\n")
@@ -56,19 +62,22 @@ map-lines s old o1 o2 o3 new unit product inverse action =
     (line-more old o1 o2 (product_line s) (a ∷ []) (line-more old old o1 a [] (no-line old old refl) unit) product) inverse) action
 
 -- all lines, where t is what is seen of u
-pub all-lines : (t u : Told) (o0 o1 o2 o3 o4 new : List ℕ) → t ≡ u → o0 ≡ [] → o1 ≡ o0 ++ text_of (first_lines u.system) → o2 ≡ o1 ++ text_of (ideal_lines u.system) → o3 ≡ o2 ++ text_of (map_lines u.system)
-    → o4 ≡ o3 ++ text_of (budget_lines (codes "budget pairs") 10000 t.pairs) → new ≡ o4 ++ text_of (budget_lines (codes "budget steps") 10000000 t.steps) → new ≡ system_text u
+pub all-lines : (t u : Told) (o0 o1 o2 o3 o4 o5 new : List ℕ) → t ≡ u → o0 ≡ [] → o1 ≡ o0 ++ text_of (first_lines u.system) → o2 ≡ o1 ++ text_of (ideal_lines u.system) → o3 ≡ o2 ++ text_of (map_lines u.system) → o4 ≡ o3 ++ text_of (section_lines u.system)
+    → o5 ≡ o4 ++ text_of (budget_lines (codes "budget pairs") 10000 t.pairs) → new ≡ o5 ++ text_of (budget_lines (codes "budget steps") 10000000 t.steps) → new ≡ system_text u
 unfolding system_text
-all-lines t u o0 o1 o2 o3 o4 new is none first ideal maps pairs steps =
+all-lines t u o0 o1 o2 o3 o4 o5 new is none first ideal maps section pairs steps =
     let s : System = u.system in
     let a : List (List ℕ) = first_lines s in
     let b : List (List ℕ) = a ++ ideal_lines s in
     let d : List (List ℕ) = b ++ map_lines s in
-    let e : List (List ℕ) = d ++ budget_lines (codes "budget pairs") 10000 u.pairs in
-    lines-more [] o4 new e (budget_lines (codes "budget steps") 10000000 u.steps)
-    (lines-more [] o3 o4 d (budget_lines (codes "budget pairs") 10000 u.pairs)
+    let e : List (List ℕ) = d ++ section_lines s in
+    let f : List (List ℕ) = e ++ budget_lines (codes "budget pairs") 10000 u.pairs in
+    lines-more [] o5 new f (budget_lines (codes "budget steps") 10000000 u.steps)
+    (lines-more [] o4 o5 e (budget_lines (codes "budget pairs") 10000 u.pairs)
+    (lines-more [] o3 o4 d (section_lines s)
     (lines-more [] o2 o3 b (map_lines s)
     (lines-more [] o1 o2 a (ideal_lines s) (first ∙ ap (λ r. r ++ text_of a) none) ideal)
     maps)
-    (subst (λ (v : Told). o4 ≡ o3 ++ text_of (budget_lines (codes "budget pairs") 10000 v.pairs)) is pairs))
-    (subst (λ (v : Told). new ≡ o4 ++ text_of (budget_lines (codes "budget steps") 10000000 v.steps)) is steps)
+    section)
+    (subst (λ (v : Told). o5 ≡ o4 ++ text_of (budget_lines (codes "budget pairs") 10000 v.pairs)) is pairs))
+    (subst (λ (v : Told). new ≡ o5 ++ text_of (budget_lines (codes "budget steps") 10000000 v.steps)) is steps)

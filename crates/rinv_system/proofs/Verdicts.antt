@@ -118,6 +118,7 @@ at-polynomials d rest TellsPolynomials.unit_line = refl
 at-polynomials d rest TellsPolynomials.product_line = refl
 at-polynomials d rest TellsPolynomials.inverse_line = refl
 at-polynomials d rest TellsPolynomials.action_line = refl
+at-polynomials d rest TellsPolynomials.section_line = refl
 
 no-numeral : (k : Keyword) (rest : List ℕ) → is_numeral rest ≡ false → numeral_fault k rest ≡ Some (Text Expression)
 unfolding numeral_fault

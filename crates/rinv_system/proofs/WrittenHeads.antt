@@ -1,6 +1,6 @@
 -- The words at the head of written lines.
 use Rattle.std.proofs.Common.{◌≡◌, List, ℕ, codes, refl, sym, subst, Some}
-use Rattle.rinv_system.specs.declared.keyword.Keyword.TheVariants.{Field, Group, Space, Ideal, Unit as AtUnit, Product, Inverse, Action, Pairs, Steps}
+use Rattle.rinv_system.specs.declared.keyword.Keyword.TheVariants.{Field, Group, Space, Ideal, Unit as AtUnit, Product, Inverse, Action, Section, Pairs, Steps}
 use Rattle.rinv_system.specs.Words.{head_of, keyword_of, budget_of}
 use Rattle.rinv_system.specs.Written.{line_text}
 use Rattle.rinv_system.proofs.WrittenLines.{IsLineText}
@@ -38,6 +38,10 @@ head-inverse rest h = subst (λ r. head_of (line_text (codes "inverse") r) ≡ S
 pub head-action : (rest : List ℕ) → IsLineText rest → head_of (line_text (codes "action") rest) ≡ Some (Action, rest)
 unfolding head_of keyword_of budget_of
 head-action rest h = subst (λ r. head_of (line_text (codes "action") r) ≡ Some (Action, r)) (sym h.begins) (rw h.begins_dark refl)
+
+pub head-section : (rest : List ℕ) → IsLineText rest → head_of (line_text (codes "section") rest) ≡ Some (Section, rest)
+unfolding head_of keyword_of budget_of
+head-section rest h = subst (λ r. head_of (line_text (codes "section") r) ≡ Some (Section, r)) (sym h.begins) (rw h.begins_dark refl)
 
 pub head-pairs : (rest : List ℕ) → IsLineText rest → head_of (line_text (codes "budget pairs") rest) ≡ Some (Pairs, rest)
 unfolding head_of keyword_of budget_of

@@ -5,9 +5,8 @@ use Rattle.std.specs.List.{list_all, prefix_len, position_from, take_while}
 use Rattle.std.proofs.lemmas.Bool.Decides.{nat_tests}
 use Rattle.rinv_algebra.proofs.Same.{both}
 use Rattle.rinv_text.proofs.PrintedBytes.{is_printed, IsSolid}
-use Rattle.rinv_system.specs.Lines.{lines_of, onto_first, without_return, is_allowed, is_bad_line, first_bad_line, is_blank, from_word, to_last_word, before_comment, content_of}
+use Rattle.rinv_system.specs.Lines.{lines_of, onto_first, without_return, is_allowed, is_bad_line, first_bad_line, is_blank, from_word, to_last_word, before_comment, content_of, contents_of}
 use Rattle.rinv_system.specs.Written.{list_text, line_text, text_of}
-use Rattle.rinv_system.specs.Texts.{contents_of}
 use Rattle.rinv_system.proofs.LineFacts.{to_last_word-other, without_return-other}
 use Rattle.rinv_system.proofs.WrittenEntries.{AreSolid}
 

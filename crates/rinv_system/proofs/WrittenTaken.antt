@@ -11,7 +11,8 @@ use Rattle.rinv_system.specs.Words.{head_of}
 use Rattle.rinv_system.specs.Entries.{words_of, is_name_word}
 use Rattle.rinv_system.specs.Drafts.{Draft, modulus, names_for, order_fault, length_fault, at_most, exactly}
 use Rattle.rinv_system.specs.Forms.{IsRestTaken, TellsNumber, TellsNames, TellsPolynomials, AreNewNames, with_number, with_names, with_polynomials, is_number_for}
-use Rattle.rinv_system.specs.Texts.{IsLineTaken, AreTaken}
+use Rattle.rinv_system.specs.LineTexts.{AreTaken}
+use Rattle.rinv_system.specs.Texts.{IsLineTaken}
 use Rattle.rinv_system.specs.Written.{list_text}
 use Rattle.rinv_system.proofs.WrittenEntries.{AreSolid}
 use Rattle.rinv_system.proofs.WrittenLines.{IsLineText}
@@ -21,13 +22,13 @@ some-line : (line : List ℕ) → IsLineText line → ¬ (line ≡ [])
 some-line line h e = let n : 0 ≡ suc (length h.others) = ap length (sym e ∙ h.begins) in omega (arith, n)
 
 -- a line is taken by its word and what follows
-pub taken : (d next : Draft) (line : List ℕ) (k : Keyword) (rest : List ℕ) → IsLineText line → head_of line ≡ Some (k, rest) → order_fault d k ≡ None → IsRestTaken d rest k next → AreTaken d (line ∷ []) next
+pub taken : (d next : Draft) (line : List ℕ) (k : Keyword) (rest : List ℕ) → IsLineText line → head_of line ≡ Some (k, rest) → order_fault d k ≡ None → IsRestTaken d rest k next → AreTaken IsLineTaken d (line ∷ []) next
 taken d next line k rest h head order r = AreTaken.one_more line AreTaken.none (IsLineTaken.taken (some-line line h) head order r)
 
 -- lines after lines
-pub chained : {d e f : Draft} {xs ys : List (List ℕ)} → AreTaken d xs e → AreTaken e ys f → AreTaken d (xs ++ ys) f
-chained {d = d} {e = e} {xs = xs} a AreTaken.none = subst (λ l. AreTaken d l e) (sym (append-nil xs)) a
-chained {d = d} {f = f} {xs = xs} a (AreTaken.one_more {lines = ls} line b t) = subst (λ l. AreTaken d l f) (append_assoc xs ls (line ∷ [])) (AreTaken.one_more line (chained a b) t)
+pub chained : {d e f : Draft} {xs ys : List (List ℕ)} → AreTaken IsLineTaken d xs e → AreTaken IsLineTaken e ys f → AreTaken IsLineTaken d (xs ++ ys) f
+chained {d = d} {e = e} {xs = xs} a AreTaken.none = subst (λ l. AreTaken IsLineTaken d l e) (sym (append-nil xs)) a
+chained {d = d} {f = f} {xs = xs} a (AreTaken.one_more {lines = ls} line b t) = subst (λ l. AreTaken IsLineTaken d l f) (append_assoc xs ls (line ∷ [])) (AreTaken.one_more line (chained a b) t)
 
 -- ---- what follows a word
 

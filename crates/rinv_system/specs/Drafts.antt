@@ -5,7 +5,7 @@ use Rattle.rinv_defs.specs.System.{Poly}
 use Rattle.rinv_text.specs.declared.fault.TextCode.TheVariants.{Limit}
 use Rattle.rinv_text.specs.Names.{copies}
 use Rattle.rinv_system.specs.declared.keyword.Keyword.{Keyword}
-use Rattle.rinv_system.specs.declared.keyword.Keyword.TheVariants.{Field, Group, Space, Ideal, Unit, Product, Inverse, Action, Pairs, Steps}
+use Rattle.rinv_system.specs.declared.keyword.Keyword.TheVariants.{Field, Group, Space, Ideal, Unit, Product, Inverse, Action, Section, Pairs, Steps}
 use Rattle.rinv_system.specs.declared.refused.Code.{Code}
 use Rattle.rinv_system.specs.declared.refused.Code.TheVariants.{Missing, Twice, Count, Text}
 
@@ -19,12 +19,13 @@ pub record Draft : Type 0 where
   pub product : Option (List Poly)
   pub inverse : Option (List Poly)
   pub action : Option (List Poly)
+  pub section : Option (List Poly)
   pub pairs : Option ℕ
   pub steps : Option ℕ
 
 -- before the first line
 abbrev pub blank : Draft
-blank = record { field = None; group = None; space = None; ideal = None; unit = None; product = None; inverse = None; action = None; pairs = None; steps = None }
+blank = record { field = None; group = None; space = None; ideal = None; unit = None; product = None; inverse = None; action = None; section = None; pairs = None; steps = None }
 
 abbrev pub modulus : Draft → ℕ
 modulus d = unwrap_or d.field 2
@@ -47,6 +48,7 @@ has_come d Unit = is_some d.unit
 has_come d Product = is_some d.product
 has_come d Inverse = is_some d.inverse
 has_come d Action = is_some d.action
+has_come d Section = is_some d.section
 has_come d Pairs = is_some d.pairs
 has_come d Steps = is_some d.steps
 
@@ -82,6 +84,7 @@ abbrev pub length_fault : Draft → Keyword → ℕ → Option Code
 length_fault d Group count = at_most 8 count
 length_fault d Space count = at_most 8 count
 length_fault d Ideal count = at_most 64 count
+length_fault d Section count = at_most 64 count
 length_fault d Unit count = exactly (length (group_names d)) count
 length_fault d Product count = exactly (length (group_names d)) count
 length_fault d Inverse count = exactly (length (group_names d)) count
@@ -92,5 +95,6 @@ length_fault d _ count = None
 abbrev pub names_for : Draft → Keyword → List (List ℕ)
 names_for d Product = copies 2 (group_names d)
 names_for d Action = group_names d ++ space_names d
+names_for d Section = space_names d
 names_for d Unit = []
 names_for d _ = group_names d

@@ -13,7 +13,7 @@ use Rattle.rinv_text.specs.Grammar.{Tree}
 use Rattle.rinv_text.specs.Stops.{IsExpression, IsRefused, Denotes, refusal}
 use Rattle.rinv_text.specs.Names.{is_new_name}
 use Rattle.rinv_system.specs.declared.keyword.Keyword.{Keyword}
-use Rattle.rinv_system.specs.declared.keyword.Keyword.TheVariants.{Field, Group, Space, Ideal, Unit, Product, Inverse, Action, Pairs, Steps}
+use Rattle.rinv_system.specs.declared.keyword.Keyword.TheVariants.{Field, Group, Space, Ideal, Unit, Product, Inverse, Action, Section, Pairs, Steps}
 use Rattle.rinv_system.specs.declared.refused.Code.{Code}
 use Rattle.rinv_system.specs.declared.refused.Code.TheVariants.{Field as InField, Text}
 use Rattle.rinv_system.specs.Entries.{entries_of, words_of, is_name_word, is_numeral}
@@ -88,6 +88,7 @@ pub data TellsPolynomials : Keyword → Type 0 where
   product_line : TellsPolynomials Product
   inverse_line : TellsPolynomials Inverse
   action_line : TellsPolynomials Action
+  section_line : TellsPolynomials Section
 
 -- the rest of a line is refused; the first refusal in the order grammar, length, entries
 pub data IsRestRefused (d : Draft) (rest : List ℕ) : Keyword → Code → Type 0 where
@@ -125,6 +126,7 @@ with_polynomials d Unit fs = record d { unit = Some (map (λ f. coefficient (res
 with_polynomials d Product fs = record d { product = Some fs }
 with_polynomials d Inverse fs = record d { inverse = Some fs }
 with_polynomials d Action fs = record d { action = Some fs }
+with_polynomials d Section fs = record d { section = Some fs }
 with_polynomials d _ fs = d
 
 -- a number is not refused

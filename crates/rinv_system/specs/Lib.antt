@@ -3,6 +3,7 @@ pub mod Words
 pub mod Entries
 pub mod Drafts
 pub mod Forms
+pub mod LineTexts
 pub mod Texts
 pub mod Stops
 pub mod OneSystem

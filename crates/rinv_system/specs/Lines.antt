@@ -1,5 +1,5 @@
 -- The lines of a text, and what stands on each: without the carriage return, the comment and the blanks at both ends.
-use Rattle.std.specs.Prelude.{ℕ, List, [], ◌∷◌, Bool, not, ◌||◌, ◌==◌, if◌then◌else◌, reverse, drop, Option}
+use Rattle.std.specs.Prelude.{ℕ, List, [], ◌∷◌, map, Bool, not, ◌||◌, ◌==◌, if◌then◌else◌, reverse, drop, Option}
 use Rattle.std.specs.List.{list_all, position_from, take_while, position_or_len}
 use Rattle.rinv_defs.specs.Names.{is_between}
 
@@ -50,3 +50,7 @@ before_comment line = take_while (λ b. not (b == 35)) line
 -- what comes before the comment, without blanks at both ends
 abbrev pub content_of : List ℕ → List ℕ
 content_of line = to_last_word (from_word (before_comment (without_return line)))
+
+-- what stands on each line
+abbrev pub contents_of : List ℕ → List (List ℕ)
+contents_of text = map content_of (lines_of text)

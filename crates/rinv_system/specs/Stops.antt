@@ -14,7 +14,8 @@ use Rattle.rinv_system.specs.declared.refused.SystemStop.TheVariants as whole
 use Rattle.rinv_system.specs.Entries.{is_numeral}
 use Rattle.rinv_system.specs.Drafts.{Draft, blank}
 use Rattle.rinv_system.specs.Forms.{is_number_for}
-use Rattle.rinv_system.specs.Texts.{AreTaken}
+use Rattle.rinv_system.specs.LineTexts.{AreTaken}
+use Rattle.rinv_system.specs.Texts.{IsLineTaken}
 
 -- the code of a line's fault has the property; want of memory says nothing
 abbrev pub OnCode : (Code → Type 0) → LineStop → Type 0
@@ -32,7 +33,7 @@ IsNumberFor k rest n = (n ≡ number_of rest) × IsTrue (is_numeral rest) × IsT
 
 -- some lines make the draft
 abbrev pub IsReached : Draft → Type 0
-IsReached d = (lines : List (List ℕ)) × AreTaken blank lines d
+IsReached d = (lines : List (List ℕ)) × AreTaken IsLineTaken blank lines d
 
 -- the fault of an entry as that of its line
 abbrev pub line_stop : TextStop → LineStop

@@ -2,7 +2,7 @@
 use Rattle.std.specs.Prelude.{ℕ, List, drop, not, bytes_eq, codes, if◌then◌else◌, Option, Some, None, option_map}
 use Rattle.std.specs.List.{take_while, position_or_len}
 use Rattle.rinv_system.specs.declared.keyword.Keyword.{Keyword}
-use Rattle.rinv_system.specs.declared.keyword.Keyword.TheVariants.{Field, Group, Space, Ideal, Unit, Product, Inverse, Action, Pairs, Steps}
+use Rattle.rinv_system.specs.declared.keyword.Keyword.TheVariants.{Field, Group, Space, Ideal, Unit, Product, Inverse, Action, Section, Pairs, Steps}
 use Rattle.rinv_system.specs.Lines.{is_blank, from_word}
 
 -- the first word of a line: up to the next blank, or the end
@@ -24,6 +24,7 @@ keyword_of word =
     else if bytes_eq word (codes "product") then Some Product
     else if bytes_eq word (codes "inverse") then Some Inverse
     else if bytes_eq word (codes "action") then Some Action
+    else if bytes_eq word (codes "section") then Some Section
     else None
 
 -- the words after `budget`

@@ -4,7 +4,7 @@ ghost use Rattle.std.specs.Prelude.{◌≡◌, [], false, length, unwrap_or, IsT
 ghost use Rattle.std.specs.List.{list_any};
 ghost use Rattle.rinv_text.specs.Names.{has_prime, meet};
 ghost use Rattle.rinv_system.specs.declared.keyword.Keyword.TheVariants as word;
-ghost use Rattle.rinv_system.specs.Drafts.{blank, modulus, group_names, space_names, has_begun, has_come, may_come, order_fault, at_most, exactly, length_fault, names_for};
+ghost use Rattle.rinv_system.specs.Drafts.{blank, modulus, group_names, space_names, has_begun, has_come, may_come, order_fault, at_most, exactly, length_fault, names_for, is_whole};
 ghost use Rattle.rinv_system.specs.Forms.{TellsPolynomials, with_number, with_names, with_polynomials};
 
 use crate::keyword::Keyword;
@@ -15,14 +15,14 @@ use rinv_text::{Names, TextCode};
 use std::alloc::{AllocError as NoMemory, Global};
 use std::marker::Model;
 
-// The greatest numbers of variables of a list, and of polynomials of an ideal.
+// The greatest numbers of variables of a list, and of polynomials of an ideal or a section.
 const MAX_NAMES: usize = 8;
 
-const MAX_IDEAL: usize = 64;
+const MAX_POLYNOMIALS: usize = 64;
 
 /// Each part of a system, where its line has come.
 #[derive(Drop)]
-pub(crate) struct Draft {
+pub struct Draft {
     pub(crate) field: Option<Gf>,
     pub(crate) group: Option<Names>,
     pub(crate) space: Option<Names>,
@@ -31,6 +31,7 @@ pub(crate) struct Draft {
     pub(crate) product: Option<Vec<KPoly>>,
     pub(crate) inverse: Option<Vec<KPoly>>,
     pub(crate) action: Option<Vec<KPoly>>,
+    pub(crate) section: Option<Vec<KPoly>>,
     pub(crate) pairs: Option<u32>,
     pub(crate) steps: Option<u64>,
 }
@@ -50,6 +51,7 @@ impl Model for Draft {
       product = option_map (λ v. v.items) d.product;
       inverse = option_map (λ v. v.items) d.inverse;
       action = option_map (λ v. v.items) d.action;
+      section = option_map (λ v. v.items) d.section;
       pairs = d.pairs;
       steps = d.steps;
     } };
@@ -89,7 +91,7 @@ fn count(names: &Option<Names>) -> usize
 
 impl Draft {
     /// Before the first line.
-    pub(crate) fn blank() -> Draft
+    pub fn blank() -> Draft
         ensures { result ≡ blank }
     {
         Draft {
@@ -101,6 +103,7 @@ impl Draft {
             product: None,
             inverse: None,
             action: None,
+            section: None,
             pairs: None,
             steps: None,
         }
@@ -126,6 +129,7 @@ impl Draft {
             Keyword::Product => self.product.is_some(),
             Keyword::Inverse => self.inverse.is_some(),
             Keyword::Action => self.action.is_some(),
+            Keyword::Section => self.section.is_some(),
             Keyword::Pairs => self.pairs.is_some(),
             Keyword::Steps => self.steps.is_some(),
         }
@@ -168,7 +172,7 @@ impl Draft {
     {
         match keyword {
             Keyword::Group | Keyword::Space => at_most(MAX_NAMES, length),
-            Keyword::Ideal => at_most(MAX_IDEAL, length),
+            Keyword::Ideal | Keyword::Section => at_most(MAX_POLYNOMIALS, length),
             Keyword::Unit | Keyword::Product | Keyword::Inverse => {
                 exactly(count(&self.group), length)
             }
@@ -177,8 +181,41 @@ impl Draft {
         }
     }
 
+    /// Whether all lines that are needed have come.
+    pub fn is_whole(&self) -> bool
+        ensures { result ≡ is_whole self.now }
+    {
+        self.has_begun()
+            && self.unit.is_some()
+            && self.product.is_some()
+            && self.inverse.is_some()
+            && self.action.is_some()
+    }
+
+    /// The names of the group's variables.
+    pub fn group(&self) -> &Names
+        requires { IsTrue (has_begun self.now) }
+        ensures { result.now ≡ group_names self.now }
+    {
+        match &self.group {
+            Some(names) => names,
+            None => unreachable!(),
+        }
+    }
+
+    /// The names of the space's variables.
+    pub fn space(&self) -> &Names
+        requires { IsTrue (has_begun self.now) }
+        ensures { result.now ≡ space_names self.now }
+    {
+        match &self.space {
+            Some(names) => names,
+            None => unreachable!(),
+        }
+    }
+
     /// The modulus.
-    pub(crate) fn field(&self) -> Gf
+    pub fn field(&self) -> Gf
         requires { IsTrue (has_begun self.now) }
         ensures { result ≡ modulus self.now }
     {
@@ -191,7 +228,8 @@ impl Draft {
     /// The names that the polynomials on the line of the word may have.
     pub(crate) fn names_for(&self, alloc: Global, keyword: Keyword) -> Result<Names, NoMemory>
         requires begun { IsTrue (has_begun self.now) }
-        requires plain { list_any has_prime (group_names self.now) ≡ false }
+        requires group { list_any has_prime (group_names self.now) ≡ false }
+        requires space { list_any has_prime (space_names self.now) ≡ false }
         requires apart { meet (group_names self.now) (space_names self.now) ≡ false }
         ensures { IfOk result (λ names. names ≡ names_for self.now keyword) }
     {
@@ -204,6 +242,7 @@ impl Draft {
         match keyword {
             Keyword::Product => group.copies(alloc, 2),
             Keyword::Action => group.joined(alloc, space),
+            Keyword::Section => space.copies(alloc, 1),
             Keyword::Unit => Ok(Names::empty(alloc)),
             _ => group.copies(alloc, 1),
         }
@@ -256,6 +295,7 @@ impl Draft {
             Keyword::Product => self.product = Some(list),
             Keyword::Inverse => self.inverse = Some(list),
             Keyword::Action => self.action = Some(list),
+            Keyword::Section => self.section = Some(list),
             _ => unreachable!(),
         }
     }

@@ -25,14 +25,16 @@ pub enum Keyword {
     Inverse,
     /// The action.
     Action,
+    /// The section.
+    Section,
     /// The greatest number of pairs.
     Pairs,
     /// The greatest number of steps.
     Steps,
 }
 
-// The first word of a line, and what follows it.
-fn split_word(line: &[u8]) -> (&[u8], &[u8])
+/// The first word of a line, and what follows it.
+pub fn split_word(line: &[u8]) -> (&[u8], &[u8])
     ensures word { result.0.now ≡ word_of line.now }
     ensures rest { result.1.now ≡ rest_of line.now }
 {
@@ -60,6 +62,8 @@ fn keyword_of(word: &[u8]) -> Option<Keyword>
         Some(Keyword::Inverse)
     } else if word == b"action".as_slice() {
         Some(Keyword::Action)
+    } else if word == b"section".as_slice() {
+        Some(Keyword::Section)
     } else {
         None
     }

@@ -17,7 +17,7 @@ pub fn texts_denote_systems()
     ensures { (text : List ℕ) (told : Told) → IsSystemText text told → IsSystem told.system }
 {}
 
-/// The text that is written of a system without a section tells this system, where its polynomials and budgets are within the limits of a text.
+/// The text that is written of a system tells this system, where its polynomials and budgets are within the limits of a text.
 pub fn written_systems_are_read()
     ensures { (told : Told) → IsWritable told → IsSystemText (system_text told) told }
 {}

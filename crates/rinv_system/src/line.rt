@@ -2,13 +2,14 @@
 
 ghost use Rattle.std.specs.Prelude.{◌≡◌, ◌<◌, ◌-◌, ◌^◌, None, length, IfOk, IfErr, OnOk};
 ghost use Rattle.rinv_system.specs.declared.keyword.Keyword.TheVariants as word;
-ghost use Rattle.rinv_system.specs.Drafts.{order_fault};
+ghost use Rattle.rinv_system.specs.Drafts.{order_fault, is_whole};
 ghost use Rattle.rinv_system.specs.Forms.{TellsNumber, TellsPolynomials, IsRestRefused, IsRestTaken, with_names};
 ghost use Rattle.rinv_system.specs.Texts.{IsLineRefused, IsLineTaken};
 ghost use Rattle.rinv_system.specs.Stops.{OnCode, IsReached};
 
 use crate::draft::Draft;
 use crate::keyword::{Keyword, head};
+use crate::reader::LineReader;
 use crate::refused::{Code, LineStop};
 use crate::{listing, naming, number};
 use rinv_text::Names;
@@ -107,8 +108,8 @@ fn add_rest(alloc: Global, draft: &mut Draft, keyword: Keyword, rest: &[u8]) -> 
     }
 }
 
-/// Adds what a line tells to what the lines before it told.
-pub(crate) fn add_line(alloc: Global, draft: &mut Draft, line: &[u8]) -> Result<(), LineStop>
+// Adds what a line tells to what the lines before it told.
+fn add_line(alloc: Global, draft: &mut Draft, line: &[u8]) -> Result<(), LineStop>
     requires reached { IsReached draft.now }
     requires short { length line.now < 2 ^ 32 - 1 }
     ensures ok { OnOk result (IsLineTaken draft.old line.now draft.new) }
@@ -125,4 +126,23 @@ pub(crate) fn add_line(alloc: Global, draft: &mut Draft, line: &[u8]) -> Result<
     }
     add_rest(alloc, draft, keyword, rest)?;
     Ok(())
+}
+
+impl LineReader for Draft {
+    ghost is_reached = { IsReached };
+
+    ghost refuses = { IsLineRefused };
+
+    ghost takes = { IsLineTaken };
+
+    ghost is_whole = { is_whole };
+
+    fn add_line(&mut self, alloc: Global, line: &[u8]) -> Result<(), LineStop> {
+        add_line(alloc, self, line)?;
+        Ok(())
+    }
+
+    fn has_all(&self) -> bool {
+        self.is_whole()
+    }
 }

@@ -1,6 +1,6 @@
 //! The lines of a text, and what stands on each.
 
-ghost use Rattle.std.specs.Prelude.{◌≡◌, ◌^◌, ◌-◌, ◌<◌, ◌≤◌, ◌==◌, ◌∷◌, ◌||◌, not, take, drop, length};
+ghost use Rattle.std.specs.Prelude.{◌≡◌, ◌^◌, ◌-◌, ◌<◌, ◌≤◌, ◌==◌, ◌∷◌, ◌||◌, not, take, drop, length, IsTrue};
 ghost use Rattle.std.specs.List.{list_all, position, position_or_len, take_while};
 ghost use Rattle.rinv_system.specs.Lines.{lines_of, without_return, is_allowed, is_blank, is_bad_line, first_bad_line, from_word, to_last_word, before_comment, content_of};
 
@@ -10,8 +10,8 @@ fn place_of(byte: u8, bytes: &[u8]) -> Option<usize>
     bytes.iter().position(|b| *b == byte)
 }
 
-// How many bytes stand before the first such byte, or the whole length.
-pub(crate) fn len_before(bytes: &[u8], byte: u8) -> usize
+/// How many bytes stand before the first such byte, or the whole length.
+pub fn len_before(bytes: &[u8], byte: u8) -> usize
     ensures before { result ≡ position_or_len (λ b. b == byte) bytes.now }
     ensures within { result ≤ length bytes.now }
 {
@@ -93,8 +93,8 @@ pub(crate) fn from_word(bytes: &[u8]) -> &[u8]
     bytes.split_at(blanks_before(bytes)).1
 }
 
-// Without blanks at the end.
-pub(crate) fn to_last_word(bytes: &[u8]) -> &[u8]
+/// Without blanks at the end.
+pub fn to_last_word(bytes: &[u8]) -> &[u8]
     ensures { result.now ≡ to_last_word bytes.now }
 {
     let mut front = bytes;
@@ -118,6 +118,17 @@ pub fn content(line: &[u8]) -> &[u8]
     ensures { result.now ≡ content_of line.now }
 {
     to_last_word(from_word(before_comment(without_return(line))))
+}
+
+/// Bytes that are allowed as text.
+pub fn ascii_text(bytes: &[u8]) -> &str
+    requires { IsTrue (list_all is_allowed bytes.now) }
+    ensures { result.now ≡ bytes.now }
+{
+    match str::from_utf8(bytes) {
+        Ok(text) => text,
+        Err(_) => unreachable!(),
+    }
 }
 
 /// The number of the first line with a byte that is not allowed.

@@ -43,8 +43,8 @@ fn go_on_a_name(bytes: &[u8]) -> bool
         .all(|b| is_letter(*b) || is_digit(*b) || *b == b'_')
 }
 
-// A letter, and then letters, digits and underscores, however many.
-fn is_name_word(word: &[u8]) -> bool
+/// A letter, and then letters, digits and underscores, however many.
+pub fn is_name_word(word: &[u8]) -> bool
     ensures { result ≡ is_name_word word.now }
 {
     let Some((first, rest)) = word.split_first() else {

@@ -73,7 +73,8 @@ fn text_word(code: TextCode) -> &'static str
 
 /// Why a line tells nothing.
 #[derive(Clone, Copy, Debug, PartialEq, Eq)]
-pub(crate) enum LineStop {
+pub enum LineStop {
+    /// The line is refused.
     Fault(Code),
     NoMemory,
 }

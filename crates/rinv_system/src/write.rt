@@ -2,7 +2,7 @@
 
 ghost use Rattle.std.specs.Prelude.{◌≡◌, ◌++◌, ◌==◌, ℕ, List, [], ◌∷◌, length, map, codes, decimal, nat_lt, All, IsTrue, IfOk, OnOk, if◌then◌else◌};
 ghost use Rattle.rinv_defs.specs.SystemForm.{IsSystem};
-ghost use Rattle.rinv_system.specs.Written.{list_text, numbers_text, line_text, first_lines, ideal_lines, product_line, inverse_line, action_line, map_lines, budget_lines, text_of, system_text};
+ghost use Rattle.rinv_system.specs.Written.{list_text, numbers_text, line_text, first_lines, ideal_lines, product_line, inverse_line, action_line, map_lines, section_lines, budget_lines, text_of, system_text};
 ghost use Rattle.rinv_system.specs.Writing.{AreOver, AppendsPolynomials, AppendsPolynomialsLine};
 
 use rinv_poly::KPoly;
@@ -207,7 +207,19 @@ fn write_maps(alloc: Global, system: &System, out: &mut Vec<u8>) -> Result<(), N
     Ok(())
 }
 
-/// The text of a system without a section.
+// The line of the section, where there is one.
+fn write_section(alloc: Global, system: &System, out: &mut Vec<u8>) -> Result<(), NoMemory>
+    requires { IsSystem system.now.system }
+    ensures { OnOk result (out.new.items ≡ out.old.items ++ text_of (section_lines system.now.system)) }
+{
+    if system.section.is_empty() {
+        return Ok(());
+    }
+    polynomials_line(alloc, b"section", &system.section, &system.space, out)?;
+    Ok(())
+}
+
+/// The text of a system.
 pub fn write_system(alloc: Global, system: &System) -> Result<Vec<u8>, NoMemory>
     requires { IsSystem system.now.system }
     ensures { IfOk result (λ v. v.items ≡ system_text system.now) }
@@ -216,6 +228,7 @@ pub fn write_system(alloc: Global, system: &System) -> Result<Vec<u8>, NoMemory>
     write_first(alloc, system, &mut out)?;
     write_ideal(alloc, system, &mut out)?;
     write_maps(alloc, system, &mut out)?;
+    write_section(alloc, system, &mut out)?;
     budget_line(
         alloc,
         b"budget pairs",

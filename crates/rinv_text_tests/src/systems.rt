@@ -33,7 +33,26 @@ const CHANGED: &[(&str, &str, u32, Code)] = &[
         Code::Text(TextCode::Limit),
     ),
     ("group a", "group y1", 2, Code::Text(TextCode::Name)),
-    ("x+a, y\n", "x+a, y\n\nsection y-1", 9, Code::Word),
+    ("x+a, y\n", "x+a, y\n\nsections y-1", 9, Code::Word),
+    ("x+a, y\n", "x+a, y\nsection x\nsection y", 9, Code::Twice),
+    (
+        "x+a, y\n",
+        "x+a, y\nsection x+a",
+        8,
+        Code::Text(TextCode::Name),
+    ),
+    (
+        "x+a, y\n",
+        "x+a, y\nsection",
+        8,
+        Code::Text(TextCode::Expression),
+    ),
+    (
+        "x+a, y\n",
+        "x+a, y\nsection x,x,x,x,x,x,x,x,x,x,x,x,x,x,x,x,x,x,x,x,x,x,x,x,x,x,x,x,x,x,x,x,x,x,x,x,x,x,x,x,x,x,x,x,x,x,x,x,x,x,x,x,x,x,x,x,x,x,x,x,x,x,x,x,x",
+        8,
+        Code::Text(TextCode::Limit),
+    ),
     ("101", "4", 1, Code::Field(FieldFault::NotListed)),
     ("101", "1", 1, Code::Field(FieldFault::TooSmall)),
     ("101", "32004", 1, Code::Field(FieldFault::TooLarge)),
@@ -50,67 +69,70 @@ const WHOLE: &[(&str, u32, Code)] = &[
     ("", 1, Code::Missing),
     ("\n", 2, Code::Missing),
     ("# nothing", 2, Code::Missing),
-    (
-        "field 101\ngroup a, b\nspace x, y\nideal a*b-1\nunit 1, 1\nproduct a*a', b*b'\ninverse b, a\naction a*x, a*y\nsection y-1",
-        9,
-        Code::Word,
-    ),
 ];
 
-// Texts that are read, and how many variables the group and the space have, and elements the ideal, the unit and the action.
-const WORKED: &[(&str, [usize; 5])] = &[
-    (TRANSLATIONS, [1, 2, 0, 1, 2]),
+// Texts that are read, and how many variables the group and the space have, and elements the ideal, the unit, the action and the section.
+const WORKED: &[(&str, [usize; 6])] = &[
+    (TRANSLATIONS, [1, 2, 0, 1, 2, 0]),
     (
         "field 101\ngroup a, b\nspace x, y\nideal a^2+b^2-1\nunit 1, 0\nproduct a*a'-b*b', a*b'+b*a'\ninverse a, -b\naction a*x-b*y, b*x+a*y",
-        [2, 2, 1, 2, 2],
+        [2, 2, 1, 2, 2, 0],
     ),
     (
         "field 101\r\ngroup a, b\r\n\tspace x ,y # two\r\n\r\nideal a*b-1\r\nunit 1, 1\r\nproduct a*a', b*b'\r\ninverse b, a\r\naction a*x, a*y\r",
-        [2, 2, 1, 2, 2],
+        [2, 2, 1, 2, 2, 0],
     ),
     (
         "field 7\ngroup a\nspace x, y\nideal a^2-1\nunit 1\nproduct a*a'\ninverse a\naction 4*(1+a)*x+4*(1-a)*y, 4*(1-a)*x+4*(1+a)*y",
-        [1, 2, 1, 1, 2],
+        [1, 2, 1, 1, 2, 0],
     ),
     (
         "field 5\ngroup a\nspace x\nideal a^5-a\nunit 0\nproduct a+a'\ninverse -a\naction x+a\nbudget pairs 0\nbudget\tsteps 7",
-        [1, 1, 1, 1, 1],
+        [1, 1, 1, 1, 1, 0],
     ),
     (
         "field 32003\ngroup a, b, c, d\nspace u, v, w\nideal a*d-b*c-1\nunit 1, 0, 0, 1\nproduct a*a'+b*c', a*b'+b*d', c*a'+d*c', c*b'+d*d'\ninverse d, -b, -c, a\naction a^2*u+a*b*v+b^2*w, 2*a*c*u+(a*d+b*c)*v+2*b*d*w, c^2*u+c*d*v+d^2*w\nbudget pairs 100000\nbudget steps 2000000",
-        [4, 3, 1, 4, 3],
+        [4, 3, 1, 4, 3, 0],
     ),
     (
         "field 101\ngroup a, b, c, d\nspace u, v, s, t\nideal a^2+b^2-1\nunit 1, 0, 0, 0\nproduct a*a'-b*b', a*b'+b*a', a*c'-b*d'+c, b*c'+a*d'+d\ninverse a, -b, -a*c-b*d, b*c-a*d\naction a*u-b*v+c, b*u+a*v+d, a*s-b*t+c, b*s+a*t+d",
-        [4, 4, 1, 4, 4],
+        [4, 4, 1, 4, 4, 0],
     ),
     (
         "field 101\ngroup a, b, c\nspace x\nideal a*b-1\nunit 1, 1, 0\nproduct a*a', b*b', a*c'+c\ninverse b, a, -b*c\naction a*x+c",
-        [3, 1, 1, 3, 1],
+        [3, 1, 1, 3, 1, 0],
     ),
     (
         "field 2\ngroup a\nspace x\nideal a^2-1\nunit 1\nproduct a*a'\ninverse a\naction a*x",
-        [1, 1, 1, 1, 1],
+        [1, 1, 1, 1, 1, 0],
     ),
     (
         "field 7\ngroup a\nspace x\nideal a^2-1\nunit 1\nproduct a*a'\ninverse a\naction a*x",
-        [1, 1, 1, 1, 1],
+        [1, 1, 1, 1, 1, 0],
     ),
     (
         "field 5\ngroup a\nspace x\nideal a^5\nunit 0\nproduct a+a'\ninverse -a\naction x+a",
-        [1, 1, 1, 1, 1],
+        [1, 1, 1, 1, 1, 0],
     ),
     (
         "field 101\ngroup a, b\nspace x\nideal a*b-1\nunit 1, 1\nproduct a*a', b*b'\ninverse b, a\naction a*x",
-        [2, 1, 1, 2, 1],
+        [2, 1, 1, 2, 1, 0],
     ),
     (
         "field 5\ngroup a\nspace x\nunit 0\nproduct a+a'\ninverse -a\naction x+a",
-        [1, 1, 0, 1, 1],
+        [1, 1, 0, 1, 1, 0],
     ),
     (
         "field 7\ngroup a\nspace x, y\nideal a^2-1\nunit 1\nproduct a*a'\ninverse a\naction a*x, a*y",
-        [1, 2, 1, 1, 2],
+        [1, 2, 1, 1, 2, 0],
+    ),
+    (
+        "field 101\ngroup a, b\nspace x, y\nsection y-1, 0\nideal a*b-1\nunit 1, 1\nproduct a*a', b*b'\ninverse b, a\naction a*x, a*y",
+        [2, 2, 1, 2, 2, 2],
+    ),
+    (
+        "field 101\ngroup a\nspace x, y\nunit 0\nproduct a+a'\ninverse -a\naction x+a, y\nsection x,x,x,x,x,x,x,x,x,x,x,x,x,x,x,x,x,x,x,x,x,x,x,x,x,x,x,x,x,x,x,x,x,x,x,x,x,x,x,x,x,x,x,x,x,x,x,x,x,x,x,x,x,x,x,x,x,x,x,x,x,x,x,x",
+        [1, 2, 0, 1, 2, 64],
     ),
 ];
 
@@ -123,6 +145,10 @@ const WRITTEN: &[(&str, &str)] = &[
     (
         "field 5\ngroup a\nspace x\nbudget\tsteps 7\nideal a^5-a\nunit 5\nproduct a+a'\ninverse -a\naction x+a\nbudget pairs 0",
         "field 5\ngroup a\nspace x\nideal a^5 + 4*a\nunit 0\nproduct a + a'\ninverse 4*a\naction a + x\nbudget pairs 0\nbudget steps 7\n",
+    ),
+    (
+        "field 101\ngroup a\nspace x, y\nsection x-1, 2*x*y\nunit 0\nproduct a+a'\ninverse -a\naction x+a, y\nbudget steps 7",
+        "field 101\ngroup a\nspace x, y\nunit 0\nproduct a + a'\ninverse 100*a\naction a + x, y\nsection x + 100, 2*x*y\nbudget steps 7\n",
     ),
 ];
 
@@ -173,18 +199,19 @@ fn refuses_whole_texts(rt: HostRuntime) {
 }
 
 // How many variables and elements the parts have.
-fn sizes(system: &System) -> [usize; 5] {
+fn sizes(system: &System) -> [usize; 6] {
     [
         system.group.len() as usize,
         system.space.len() as usize,
         system.ideal.len(),
         system.unit.len(),
         system.action.len(),
+        system.section.len(),
     ]
 }
 
 // Whether the text is read as a system of these sizes.
-fn reads(alloc: Global, text: &str, expected: &[usize; 5]) -> bool {
+fn reads(alloc: Global, text: &str, expected: &[usize; 6]) -> bool {
     match read(alloc, text) {
         Ok(system) => sizes(&system) == *expected,
         Err(_) => false,

@@ -18,8 +18,11 @@ returns-in-Some-clause-fault c = λ rest e.
     IsRestRefused.wrong_length c.requires.tells (subst (All IsSomeExpression) e (at_yes _ _ _ c.in_ok-grammatical.ensures c.if-not-grammatical.false))
     (ap (λ es. length_fault c.args.draft.now c.args.keyword (length es)) (sym e) ∙ ap (length_fault c.args.draft.now c.args.keyword) (length-map c.args.entries.now (λ e. e.now)) ∙ sym c.in-Some.ensures)
 
-pub names_for-requires-clause-plain : goal.names_for-requires-clause-plain
-names_for-requires-clause-plain c = (begun-of_order _ c.requires.reached c.requires.tells c.requires.order).plain
+pub names_for-requires-clause-group : goal.names_for-requires-clause-group
+names_for-requires-clause-group c = (begun-of_order _ c.requires.reached c.requires.tells c.requires.order).group
+
+pub names_for-requires-clause-space : goal.names_for-requires-clause-space
+names_for-requires-clause-space c = (begun-of_order _ c.requires.reached c.requires.tells c.requires.order).space
 
 pub names_for-requires-clause-apart : goal.names_for-requires-clause-apart
 names_for-requires-clause-apart c = (begun-of_order _ c.requires.reached c.requires.tells c.requires.order).apart
