@@ -1,7 +1,0 @@
-pub mod OneCancelled
-pub mod KeptFacts
-pub mod FaultFacts
-pub mod RestFacts
-pub mod OneLine
-pub mod OneScript
-pub mod ReadFacts

@@ -1,6 +1,0 @@
-pub mod Queries
-pub mod Words
-pub mod Scripts
-pub mod ScriptTexts
-pub mod Stored
-pub mod Kept
