@@ -10,7 +10,7 @@ use rinv_laws::LawName;
 use rinv_mono::Mono;
 use rinv_poly::KPoly;
 use rinv_system::read_system;
-use rinv_text::{System, read_poly};
+use rinv_text::System;
 use std::alloc::Global;
 
 const ROTATIONS: &[u8] =
@@ -21,6 +21,12 @@ const WRONG_PRODUCT: &[u8] =
 
 const NO_PAIRS: &[u8] =
     b"field 101\ngroup a, b\nspace x, y\nideal a^2+b^2-1\nunit 1, 0\nproduct a*a'-b*b', a*b'+b*a'\ninverse a, -b\naction a*x-b*y, b*x+a*y\nbudget pairs 0\n";
+
+const ON_AXIS: &[u8] =
+    b"field 101\ngroup a, b\nspace x, y\nideal a^2+b^2-1\nunit 1, 0\nproduct a*a'-b*b', a*b'+b*a'\ninverse a, -b\naction a*x-b*y, b*x+a*y\nsection x\n";
+
+const ON_LINES: &[u8] =
+    b"field 101\ngroup a, b\nspace x, y\nideal a^2+b^2-1\nunit 1, 0\nproduct a*a'-b*b', a*b'+b*a'\ninverse a, -b\naction a*x-b*y, b*x+a*y\nsection x^2+y^2\n";
 
 // The laws that are proved, in their order, and how many parts each has.
 const PROVED: [(LawName, usize); 6] = [
@@ -65,23 +71,6 @@ fn plain_system(alloc: Global, text: &[u8]) -> Option<System>
     } else {
         None
     }
-}
-
-// The system with the polynomial of a text as its section.
-fn with_section(alloc: Global, text: &[u8], equation: &str) -> Option<System>
-    ensures { IfSome result (λ told. IsSystem told.system) }
-{
-    let mut system = system_of(alloc, text)?;
-    if equation.len() > 10_000 || system.section.len() >= 64 {
-        return None;
-    }
-    let Ok(f) = read_poly(alloc, equation, &system.space, &system.field) else {
-        return None;
-    };
-    if system.section.push(f).is_err() {
-        return None;
-    }
-    Some(system)
 }
 
 // The generators of the system of a text.
@@ -172,8 +161,12 @@ fn names_law(alloc: Global, text: &[u8], law: LawName) -> bool {
     let Some(system) = plain_system(alloc, text) else {
         return false;
     };
-    match generators(alloc, system) {
-        Err((system, GenStop::Law(fault))) => fault.law == law && system.space.len() == 2,
+    let Err(back) = generators(alloc, system) else {
+        return false;
+    };
+    let (system, stop) = back;
+    match stop {
+        GenStop::Law(fault) => fault.law == law && system.space.len() == 2,
         _ => false,
     }
 }
@@ -183,30 +176,38 @@ fn halts_in(alloc: Global, text: &[u8], wanted: Phase, entries: usize) -> bool {
     let Some(system) = plain_system(alloc, text) else {
         return false;
     };
-    match generators(alloc, system) {
-        Err((system, GenStop::Incomplete { phase, journal, .. })) => {
+    let Err(back) = generators(alloc, system) else {
+        return false;
+    };
+    let (system, stop) = back;
+    match stop {
+        GenStop::Incomplete { phase, journal, .. } => {
             phase == wanted && journal.len() == entries && system.space.len() == 2
         }
         _ => false,
     }
 }
 
-// How many generators there are on the section.
-fn count_on(alloc: Global, text: &[u8], equation: &str) -> Option<usize> {
-    let system = with_section(alloc, text, equation)?;
+// How many generators there are on the text's section.
+fn count_on(alloc: Global, text: &[u8]) -> Option<usize> {
+    let system = system_of(alloc, text)?;
     match generators_on(alloc, system) {
         Ok(gens) => Some(gens.fractions.len()),
         Err(_) => None,
     }
 }
 
-// Whether the section misses the orbits, by this element.
-fn misses_by(alloc: Global, text: &[u8], equation: &str, wanted: &[Term]) -> bool {
-    let Some(system) = with_section(alloc, text, equation) else {
+// Whether the text's section misses the orbits, by this element.
+fn misses_by(alloc: Global, text: &[u8], wanted: &[Term]) -> bool {
+    let Some(system) = system_of(alloc, text) else {
         return false;
     };
-    match generators_on(alloc, system) {
-        Err((_, SectionStop::Misses { element })) => has_terms(&element, wanted),
+    let Err(back) = generators_on(alloc, system) else {
+        return false;
+    };
+    let (_system, stop) = back;
+    match stop {
+        SectionStop::Misses { element } => has_terms(&element, wanted),
         _ => false,
     }
 }
@@ -240,11 +241,11 @@ fn hands_the_system_back(rt: HostRuntime) {
 #[test]
 fn finds_generators_on_a_section(rt: HostRuntime) {
     assert!(rt;
-        count_on(rt.alloc(), ROTATIONS, "x") == Some(1),
+        count_on(rt.alloc(), ON_AXIS) == Some(1),
         "each orbit meets the second axis"
     );
     assert!(rt;
-        misses_by(rt.alloc(), ROTATIONS, "x^2+y^2", SQUARES),
+        misses_by(rt.alloc(), ON_LINES, SQUARES),
         "only the origin's orbit has this radius"
     );
 }
