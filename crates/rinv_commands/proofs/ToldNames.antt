@@ -7,7 +7,8 @@ use Rattle.rinv_defs.specs.Names.{is_letter, is_digit, is_plain_name, is_symbol,
 use Rattle.rinv_defs.specs.System.{System}
 use Rattle.rinv_text.specs.Told.{Told}
 use Rattle.rinv_system.specs.Drafts.{Draft, blank, group_names, space_names}
-use Rattle.rinv_system.specs.Texts.{IsSystemText, AreTaken, told_by}
+use Rattle.rinv_system.specs.LineTexts.{AreTaken}
+use Rattle.rinv_system.specs.Texts.{IsLineTaken, IsSystemText, told_by}
 use Rattle.rinv_system.proofs.Good.{IsGood, AreTaken-good}
 use Rattle.rinv_commands.proofs.Feedless.{is_inner, IsInner, AreInner}
 
@@ -48,8 +49,8 @@ draft-named d (IsGood.with_group p group listed names) = (names-inner [] group n
 draft-named d (IsGood.begun p group space rest form) = (names-inner [] group form.group_form.form, names-inner group space form.space_form.form)
 
 -- of a system that taken lines tell, also where other lines stand between them
-pub told-named : (told : Told) (d : Draft) (lines : List (List ℕ)) → AreTaken blank lines d → told ≡ told_by d → IsNamed told.system
+pub told-named : (told : Told) (d : Draft) (lines : List (List ℕ)) → AreTaken IsLineTaken blank lines d → told ≡ told_by d → IsNamed told.system
 told-named told d lines taken is = let h = draft-named d (AreTaken-good taken) in subst (λ (t : Told). IsNamed t.system) (sym is) (record { group = h.0; space = h.1 })
 
 pub system-named : (bytes : List ℕ) (told : Told) → IsSystemText bytes told → IsNamed told.system
-system-named bytes told h = told-named told h.draft _ h.taken h.is
+system-named bytes told h = told-named told h.draft _ h.is_text.taken h.is

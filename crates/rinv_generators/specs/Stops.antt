@@ -1,7 +1,7 @@
 -- Why there are no generators with their proofs: all that `pieces` of rinv_gens says, and the degrees that the proofs meet.
 --   AreRun               both runs have ended, and nothing is missed
 --   HaltsProvingLaws, HaltsProvingInvariance    the proofs of the laws halt, or those of the generators
---   ProvingHaltsIn       these by their phase
+--   ProvingHaltsIn, WorkHaltsIn    these by their phase, and with the halts before the proofs
 --   StopsSo, NeverMissesSo, SectionStopsSo      what a stop says: with a section, without one, and told apart
 use Rattle.std.specs.Prelude.{◌≡◌, ◌⊎◌, ℕ, List, ◌++◌, ⊤}
 use Rattle.rinv_groebner.specs.Journal.{Entry}
@@ -64,11 +64,15 @@ ProvingHaltsIn told Laws journal why = HaltsProvingLaws told journal why
 ProvingHaltsIn told Action journal why = ⊥
 ProvingHaltsIn told Tail journal why = HaltsProvingInvariance told journal why
 
+-- the work halts in a phase, before its proofs or in them
+abbrev pub WorkHaltsIn : Told → Phase → List Entry → Why → Type 0
+WorkHaltsIn told phase journal why = HaltsIn told phase journal why ⊎ ProvingHaltsIn told phase journal why
+
 -- a stop names the first part of a law that is false, what is missed, or a phase that halts; want of memory says nothing
 abbrev pub StopsWith : Told → (Poly → Type 0) → GenStop → Type 0
 StopsWith told Missed (stop.Law f) = IsFalseLaw told (law_of f.law) f.part f.rest
 StopsWith told Missed (stop.Missed d) = Missed d
-StopsWith told Missed (stop.Incomplete phase journal why) = HaltsIn told phase (journal_of journal.items) why ⊎ ProvingHaltsIn told phase (journal_of journal.items) why
+StopsWith told Missed (stop.Incomplete phase journal why) = WorkHaltsIn told phase (journal_of journal.items) why
 StopsWith told Missed stop.NoMemory = ⊤
 
 abbrev pub StopsSo : Told → GenStop → Type 0

@@ -62,7 +62,7 @@ pub fn assemble(
     ensures handed_back { IfErr result (λ e. e.0 ≡ system) }
     ensures stop { IfErr result (λ e. AssemblyStopsSo system.system group.basis action monic e.1) }
 {
-    match assembled(alloc, &system, &group, &action, &monic) {
+    match rest_of(alloc, &system, &group, &action, &monic) {
         Ok(rest) => {
             let Assembled {
                 relations,
@@ -87,7 +87,7 @@ pub fn assemble(
 }
 
 // The coefficients numbered, the proofs, and the journal of both runs.
-fn assembled(
+fn rest_of(
     alloc: Global,
     system: &System,
     group: &GroupBasis,
@@ -129,7 +129,8 @@ fn numbered_of(
     ensures numbered { IfOk result (λ n. AreNumbered system.now.system monic.now n.relations.items n.fractions.items) }
     ensures stop { IfErr result (AssemblyStopsSo system.now.system group.now.basis action.now monic.now) }
 {
-    let field = FracRing::new(PolyRing::new(system.field, system.space.len()));
+    let ring = PolyRing::new(system.field, system.space.len());
+    let field = FracRing::new(ring);
     match number_coefficients(&field, alloc, monic) {
         Ok(numbered) => Ok(numbered),
         Err(RingFault::Degree { left, right }) => {

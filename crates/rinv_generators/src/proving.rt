@@ -31,8 +31,9 @@ pub(crate) fn joined(
 ) -> Result<Vec<Entry>, NoMemory>
     ensures { IfOk result (λ r. journal_of r.items ≡ group.now.basis.journal ++ action.now.journal) }
 {
-    let mut journal = group.basis.journal.to_vec(alloc)?;
-    let mut rest = action.journal.to_vec(alloc)?;
+    let basis = &group.basis;
+    let mut journal = basis.journal.as_slice().to_vec(alloc)?;
+    let mut rest = action.journal.as_slice().to_vec(alloc)?;
     journal.append(&mut rest)?;
     Ok(journal)
 }
@@ -78,7 +79,8 @@ fn invariance_proofs(
     }
     let cofactors = kept_cofactors(alloc, system, group)?;
     'fractions: for k in 0..fractions.len() {
-        let proof = invariance_proof(alloc, system, group, &cofactors, &fractions[k])?;
+        let fraction = &fractions[k];
+        let proof = invariance_proof(alloc, system, group, &cofactors, fraction)?;
         proofs.push(proof)?;
     }
     Ok(proofs)

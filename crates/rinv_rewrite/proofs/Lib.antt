@@ -10,3 +10,4 @@ pub mod VanishingRests
 pub mod Choices
 pub mod ExpressingFaults
 pub mod AnswerClauses
+pub mod Expressed

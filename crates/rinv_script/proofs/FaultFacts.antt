@@ -1,16 +1,14 @@
 -- How the text of a fraction is refused where a code comes behind its grammar.
-use Rattle.std.proofs.Common.{◌≡◌, ℕ, Bool, true, false, List, length, Option, Some, None, unwrap_or, if◌then◌else◌, refl, sym, ap, subst, ◌∙◌}
+use Rattle.std.proofs.Common.{◌≡◌, ℕ, Bool, true, false, List, length, Option, Some, None, unwrap_or, if◌then◌else◌, refl, sym, subst}
 use Rattle.rinv_text.specs.declared.fault.TextFault.{TextFault}
 use Rattle.rinv_text.specs.declared.fault.TextCode.{TextCode}
 use Rattle.rinv_text.specs.declared.fault.TextCode.TheVariants.{Expression, Name, Limit, FormalDegree, FormalTerms, ZeroDenominator}
-use Rattle.rinv_text.specs.declared.formal.Formal.{Formal}
-use Rattle.rinv_text.specs.Tokens.{Token, Placed, kinds, fraction_tokens}
+use Rattle.rinv_text.specs.Tokens.{Placed, kinds, fraction_tokens}
 use Rattle.rinv_text.specs.Grammar.{Tree}
 use Rattle.rinv_text.specs.Formal.{is_high, is_long}
-use Rattle.rinv_text.specs.Reading.{meaning, formal_of, known_names, divides_by_zero}
-use Rattle.rinv_text.specs.Stops.{AreRefused, malformed, refused, first_unknown, is_past_limit, excess, refusal_by, fraction_refusal, start}
+use Rattle.rinv_text.specs.Reading.{meaning, formal_of, divides_by_zero}
+use Rattle.rinv_text.specs.Stops.{malformed, refused, is_past_limit, refusal_by, fraction_refusal, start}
 use Rattle.rinv_text.proofs.OneReading.{have_one_reading}
-use Rattle.rinv_system.specs.declared.refused.Code.{Code}
 use Rattle.rinv_system.specs.declared.refused.Code.TheVariants.{Text}
 use Rattle.rinv_system.specs.Drafts.{modulus, space_names}
 use Rattle.rinv_script.specs.Scripts.{ScriptDraft, IsFault, IsRefusedInTurn}

@@ -1,5 +1,5 @@
 -- What holds of a draft after lines that were taken.
-use Rattle.std.proofs.Common.{◌≡◌, ℕ, Bool, true, false, not, ◌&&◌, ◌||◌, nat_lt, List, [], ◌∷◌, ◌++◌, length, map, bytes_eq, IsTrue, Option, Some, None, if◌then◌else◌, refl, sym, ap, subst, ◌∙◌, arith, true≢false}
+use Rattle.std.proofs.Common.{◌≡◌, ℕ, Bool, true, false, not, ◌&&◌, ◌||◌, nat_lt, List, [], ◌∷◌, ◌++◌, length, map, bytes_eq, IsTrue, Some, None, if◌then◌else◌, refl, sym, ap, subst, ◌∙◌, arith, true≢false}
 use Rattle.std.specs.List.{All, list_any}
 use Rattle.std.proofs.lemmas.Bool.Decides.{nat_tests}
 use Rattle.std.proofs.lemmas.List.{map-append}
@@ -16,11 +16,10 @@ use Rattle.rinv_text.specs.Reading.{Definition}
 use Rattle.rinv_system.specs.Drafts.{Draft, modulus, group_names, space_names, has_begun, is_whole}
 use Rattle.rinv_system.specs.LineTexts.{AreTaken}
 use Rattle.rinv_system.specs.Texts.{IsLineTaken}
-use Rattle.rinv_system.specs.Stops.{IsReached}
 use Rattle.rinv_system.proofs.Good.{AreTaken-good, good-listed}
 use Rattle.rinv_script.specs.Queries.{Query}
 use Rattle.rinv_script.specs.Words.{AsksAlone, AsksOf}
-use Rattle.rinv_script.specs.Scripts.{ScriptDraft, blank_script, has_script, given_names, name_fault, IsFraction, IsScriptRestTaken}
+use Rattle.rinv_script.specs.Scripts.{ScriptDraft, blank_script, has_script, given_names, name_fault, IsScriptRestTaken}
 use Rattle.rinv_script.specs.ScriptTexts.{IsScriptLineTaken}
 use Rattle.rinv_script.specs.Stored.{IsStoredQuery}
 use Rattle.rinv_script.specs.Kept.{IsKept}
@@ -69,6 +68,16 @@ new-absent d name e =
     let front : (list_any (bytes_eq name) (group_names d.system) || list_any (bytes_eq name) (space_names d.system)) ≡ false = sym (list_any-append (bytes_eq name) (group_names d.system) (space_names d.system)) ∙ or_left _ _ split in
     (or_right (list_any (bytes_eq name) (group_names d.system)) _ front, or_right (list_any (bytes_eq name) (group_names d.system ++ space_names d.system)) _ split)
 
+-- the same of the list of abbreviations
+pub absent-defs : (name : List ℕ) (defs : List Definition) → list_any (bytes_eq name) (map (λ a. a.name) defs) ≡ false → list_any (λ d. bytes_eq name d.name) defs ≡ false
+absent-defs name [] h = refl
+absent-defs name (d ∷ defs) h = both_off (bytes_eq name d.name) (list_any (λ e. bytes_eq name e.name) defs) (or_left (bytes_eq name d.name) _ h) (absent-defs name defs (or_right (bytes_eq name d.name) _ h))
+
+-- a name more, and its abbreviation
+pub both-more : (names names' : List (List ℕ)) (defs defs' : List Definition) (a : Definition) → names ≡ map (λ d. d.name) defs → names' ≡ names ++ a.name ∷ [] → defs' ≡ defs ++ a ∷ [] → names' ≡ map (λ d. d.name) defs'
+both-more names names' defs defs' a same first second =
+    first ∙ ap (λ ns. ns ++ a.name ∷ []) same ∙ sym (map-append (λ (d : Definition). d.name) defs (a ∷ [])) ∙ ap (map (λ (d : Definition). d.name)) (sym second)
+
 -- ---- one line more
 
 none-of : {A : Type 0} (xs : List A) → nat_lt 0 (length xs) ≡ false → xs ≡ []
@@ -81,10 +90,10 @@ no-script d e = (none-of d.defs (or_left (nat_lt 0 (length d.defs)) (nat_lt 0 (l
 
 module _ (d : ScriptDraft) (kept : IsKept d) where
   pub kept-system : (next : Draft) (line : List ℕ) → has_script d ≡ false → IsLineTaken d.system line next → IsKept (record d { system = next })
-  kept-system next line e taken =
+  kept-system next line e made =
       let (no_defs, no_queries) = no-script d e in
       record {
-        system = (kept.system.0 ++ line ∷ [], AreTaken.one_more line kept.system.1 taken);
+        system = (kept.system.0 ++ line ∷ [], AreTaken.one_more line kept.system.1 made);
         apart = subst (λ (l : List Definition). meet (space_names next) (map (λ a. a.name) l) ≡ false) (sym no_defs) refl;
         values = subst (All (λ (a : Definition). IsStored (modulus next) (length (space_names next)) a.value)) (sym no_defs) (All-nil (λ (a : Definition). IsStored (modulus next) (length (space_names next)) a.value));
         queries = subst (All (IsStoredQuery (modulus next) (length (space_names next)))) (sym no_queries) (All-nil (IsStoredQuery (modulus next) (length (space_names next))));
@@ -112,7 +121,7 @@ stored-of p v f AsksOf.of_expression is = is
 
 pub kept-more : (d next : ScriptDraft) (line : List ℕ) → IsKept d → IsScriptLineTaken d line next → IsKept next
 kept-more d _ line kept (IsScriptLineTaken.empty e) = kept
-kept-more d _ line kept (IsScriptLineTaken.of_system {next = next} some none taken) = kept-system d kept next line none taken
+kept-more d _ line kept (IsScriptLineTaken.of_system {next = next} some none made) = kept-system d kept next line none made
 kept-more d _ line kept (IsScriptLineTaken.of_script some none head whole (IsScriptRestTaken.a_definition f formal is new fraction)) = kept-definition d kept (record { name = _; value = f; formal = formal }) new fraction.stored
 kept-more d _ line kept (IsScriptLineTaken.of_script some none head whole (IsScriptRestTaken.a_word {q = q} asks is few)) = kept-query d kept q (stored-alone _ _ asks)
 kept-more d _ line kept (IsScriptLineTaken.of_script some none head whole (IsScriptRestTaken.a_fraction {ask = ask} f formal asks few fraction)) = kept-query d kept (ask f) (stored-of _ _ f asks fraction.stored)

@@ -1,7 +1,6 @@
 -- A fraction is cancelled in one way: what is left is one pair of polynomials, up to how they are written, and so one pair in their stored form.
-use Rattle.std.proofs.Common.{◌≡◌, ℕ, Bool, true, false, cond, List, [], ◌∷◌, ◌==◌, get_or, IsTrue, refl, sym, ap, ap₂, subst, ◌∙◌, arith, true≢false, ◌&&◌}
+use Rattle.std.proofs.Common.{◌≡◌, ℕ, nat_cmp, Bool, true, false, cond, List, [], ◌∷◌, ◌==◌, IsTrue, refl, sym, ap, ap₂, subst, ◌∙◌, arith, true≢false}
 use Rattle.std.specs.Ordering.{is_ge, is_eq, ordering_then, ordering_reverse}
-use Rattle.std.specs.Cmp.{nat_cmp}
 use Rattle.std.specs.declared.cmp.Ordering.{Ordering}
 use Rattle.std.specs.declared.cmp.Ordering.TheVariants.{Less, Equal, Greater}
 use Rattle.std.proofs.lemmas.Bool.Decides.{nat_tests}
@@ -14,14 +13,14 @@ use Rattle.rinv_algebra.specs.Leading.{IsLeadingMonomial}
 use Rattle.rinv_algebra.specs.Fraction.{Fraction, over_one}
 use Rattle.rinv_algebra.proofs.RingFacts as facts
 use Rattle.rinv_algebra.proofs.Same.{and_true, coefficient-same_monomial, same-from_coefficients}
-use Rattle.rinv_algebra.proofs.MonomialLaws.{same_from, same_monomial-left}
+use Rattle.rinv_algebra.proofs.MonomialLaws.{same_from, same_monomial_refl, same_monomial-left}
 use Rattle.rinv_algebra.proofs.Grevlex.{grevlex_laws}
 use Rattle.rinv_algebra.proofs.PolynomialLaws.{poly_laws}
 use Rattle.rinv_algebra.proofs.ResidueLaws.{residue_laws}
 use Rattle.rinv_algebra.proofs.ResidueField.{residue_field_laws}
 use Rattle.rinv_algebra.proofs.Degrees.{is_zero-same, is_zero-false}
 use Rattle.rinv_theory.proofs.CRing.{CRing, by, add_cancel, add_neg}
-use Rattle.rinv_theory.proofs.Classes.{Class, class, class_sound, class_exact, class-mul, class-zero}
+use Rattle.rinv_theory.proofs.Classes.{class, class_sound, class_exact, class-mul, class-zero}
 use Rattle.rinv_theory.proofs.Polynomials.{poly_ring}
 use Rattle.rinv_theory.proofs.Domain.{IsDomain}
 use Rattle.rinv_theory.proofs.Fields.{poly_domain}
@@ -89,6 +88,7 @@ module _ {E : Type 0} (o : RingOps E) (l : RingLaws o) (F : FieldLaws o) where
 
   -- one term, written in two ways
   one-term : (m n : List ℕ) (c d : E) → same_monomial m n ≡ true → IsSame o c d → IsSame P ((m, c) ∷ []) ((n, d) ∷ [])
+  unfolding coefficient
   one-term m n c d same e = same-from_coefficients o ((m, c) ∷ []) ((n, d) ∷ []) (λ k. subst (λ b. IsSame o (cond (same_monomial m k) (o.add c o.zero) o.zero) (cond b (o.add d o.zero) o.zero)) (same_monomial-left m n k same) (at (same_monomial m k)))
     where
       at : (b : Bool) → IsSame o (cond b (o.add c o.zero) o.zero) (cond b (o.add d o.zero) o.zero)
@@ -169,7 +169,7 @@ module _ {E : Type 0} (o : RingOps E) (l : RingLaws o) (F : FieldLaws o) where
   scale-one c d f x y e s t =
       let first : IsSame P x (product o (constant o c) f) = subst (IsSame P x) (by_term o l F ([], c) f) s in
       let second : IsSame P y (product o (constant o d) f) = subst (IsSame P y) (by_term o l F ([], d) f) t in
-      facts.then P q first (facts.then P q (q.mul_same (constant o c) (constant o d) f f (one-term [] [] c d refl e) (q.same_refl f)) (q.same_sym y (product o (constant o d) f) second))
+      facts.then P q first (facts.then P q (q.mul_same (constant o c) (constant o d) f f (one-term [] [] c d (same_monomial_refl []) e) (q.same_refl f)) (q.same_sym y (product o (constant o d) f) second))
 
   scaled-one : (f x y : Fraction E) → IsScaled o f x → IsScaled o f y → IsSamePair o x y
   scaled-one f x y a b = record { numerator = scale-one a.factor b.factor f.0 x.0 y.0 same a.scaled.numerator b.scaled.numerator; denominator = scale-one a.factor b.factor f.1 x.1 y.1 same a.scaled.denominator b.scaled.denominator }

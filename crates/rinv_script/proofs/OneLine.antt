@@ -1,22 +1,20 @@
 -- A line of a script is taken in one way at most, or refused for one cause, and not both.
-use Rattle.std.proofs.Common.{◌≡◌, ℕ, Bool, true, false, List, [], ◌∷◌, ◌++◌, length, Option, Some, None, refl, sym, ap, ap₂, subst, ◌∙◌, true≢false}
+use Rattle.std.proofs.Common.{◌≡◌, ℕ, List, [], ◌∷◌, ◌++◌, length, Option, Some, None, refl, sym, ap, ap₂, subst, ◌∙◌, true≢false}
 use Rattle.rinv_algebra.specs.Fraction.{Fraction}
 use Rattle.rinv_algebra.specs.Residue.{residue_ops}
 use Rattle.rinv_frac.specs.Cancelling.{IsCancelled}
 use Rattle.rinv_text.specs.declared.fault.TextFault.{TextFault}
 use Rattle.rinv_text.specs.declared.fault.TextCode.{TextCode}
 use Rattle.rinv_text.specs.declared.formal.Formal.{Formal}
-use Rattle.rinv_text.specs.Grammar.{Tree}
 use Rattle.rinv_text.specs.Tokens.{fraction_tokens}
 use Rattle.rinv_text.specs.Formal.{formal}
 use Rattle.rinv_text.specs.Reading.{value, meaning, formal_of}
 use Rattle.rinv_text.specs.Stops.{fraction_refusal, HasOneFraction}
 use Rattle.rinv_text.proofs.OneReading.{have_one_reading}
-use Rattle.rinv_system.specs.declared.keyword.Keyword.{Keyword}
 use Rattle.rinv_system.specs.declared.refused.Code.{Code}
 use Rattle.rinv_system.specs.declared.refused.Code.TheVariants.{Text}
 use Rattle.rinv_system.specs.Words.{head_of}
-use Rattle.rinv_system.specs.Drafts.{Draft, modulus, space_names, is_whole}
+use Rattle.rinv_system.specs.Drafts.{Draft, modulus, space_names}
 use Rattle.rinv_system.specs.LineTexts.{AreApart}
 use Rattle.rinv_system.specs.Texts.{IsLineTaken, IsLineRefused}
 use Rattle.rinv_system.proofs.Good.{AreTaken-good, good-listed}
@@ -25,8 +23,8 @@ use Rattle.rinv_system.proofs.OneDraft.{one-code, not-taken}
 use Rattle.rinv_script.specs.declared.words.ScriptWord.{ScriptWord}
 use Rattle.rinv_script.specs.declared.words.ScriptWord.TheVariants.{Def}
 use Rattle.rinv_script.specs.Queries.{Query}
-use Rattle.rinv_script.specs.Words.{AsksAlone, AsksOf, script_head}
-use Rattle.rinv_script.specs.Scripts.{ScriptDraft, has_script, name_fault, query_fault, defined_name, defined_value, IsFractionExpression, IsDefinition, IsFraction, IsFault, IsRefusedInTurn, IsScriptRestRefused, IsScriptRestTaken}
+use Rattle.rinv_script.specs.Words.{AsksAlone, AsksOf}
+use Rattle.rinv_script.specs.Scripts.{ScriptDraft, defined_name, defined_value, IsFractionExpression, IsFraction, IsFault, IsRefusedInTurn, IsScriptRestRefused, IsScriptRestTaken}
 use Rattle.rinv_script.specs.ScriptTexts.{IsScriptLineRefused, IsScriptLineTaken}
 use Rattle.rinv_script.specs.Kept.{IsKept}
 use Rattle.rinv_script.proofs.OneCancelled.{stored-one}

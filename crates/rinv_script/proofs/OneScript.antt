@@ -1,12 +1,10 @@
 -- A text has one script at most, or one refusal, and not both.
-use Rattle.std.proofs.Common.{◌≡◌, ℕ, List, sym, ap, ◌∙◌}
-use Rattle.rinv_system.specs.declared.refused.Refused.{Refused}
+use Rattle.std.proofs.Common.{ℕ, List, sym, ap, ◌∙◌}
 use Rattle.rinv_system.specs.Texts.{told_by}
 use Rattle.rinv_system.proofs.OneReading.{one_text, one_refusal, never_both}
 use Rattle.rinv_script.specs.declared.form.Form.{Form}
-use Rattle.rinv_script.specs.Queries.{Script}
 use Rattle.rinv_script.specs.Scripts.{ScriptDraft, blank_script}
-use Rattle.rinv_script.specs.ScriptTexts.{IsScriptLineRefused, IsScriptLineTaken, is_whole_script, IsScriptText, IsRefusedScript, HasOneScript}
+use Rattle.rinv_script.specs.ScriptTexts.{IsScriptLineRefused, IsScriptLineTaken, is_whole_script, HasOneScript}
 use Rattle.rinv_script.specs.Kept.{IsKept}
 use Rattle.rinv_script.proofs.KeptFacts.{kept-blank}
 use Rattle.rinv_script.proofs.OneLine.{script_lines-apart}

@@ -1,10 +1,9 @@
 -- What follows the word of a script line, part by part.
-use Rattle.std.proofs.Common.{◌≡◌, ℕ, zero, suc, option_map, ◌+◌, ◌≤◌, Bool, true, false, not, cond, ◌||◌, ◌==◌, List, [], ◌∷◌, take, drop, length, one-add, IsTrue, IsFalse, Option, Some, None, if◌then◌else◌, refl, sym, ap, subst, ◌∙◌, arith, length-drop}
+use Rattle.std.proofs.Common.{◌≡◌, ℕ, zero, suc, option_map, ◌+◌, ◌≤◌, Bool, true, false, not, cond, ◌||◌, ◌==◌, List, [], ◌∷◌, drop, length, one-add, IsTrue, IsFalse, Option, Some, None, refl, sym, ap, ◌∙◌, arith, length-drop}
 use Rattle.std.specs.List.{list_all, list_any, take_while, position_or_len}
 use Rattle.rinv_system.specs.Lines.{is_allowed, is_blank}
 use Rattle.rinv_system.specs.Words.{rest_of, word_of}
 use Rattle.rinv_system.proofs.Allowed.{all-take, all-drop, all-from_word, all-to_last_word}
-use Rattle.rinv_system.proofs.ShortFacts.{rest_of-short}
 use Rattle.rinv_script.specs.declared.form.Form.{Form}
 use Rattle.rinv_script.specs.declared.words.ScriptWord.{ScriptWord}
 use Rattle.rinv_script.specs.Words.{script_word_of, if_allowed, script_head}
@@ -35,7 +34,7 @@ module _ (test : ℕ → Bool) where
 drop-further : (k : ℕ) (bs : List ℕ) (b : ℕ) (rest : List ℕ) → drop k bs ≡ b ∷ rest → drop (k + 1) bs ≡ rest
 drop-further zero bs b rest e = ap (drop 1) e
 drop-further (suc k) [] b rest e = absurd (let n : 0 ≡ suc (length rest) = ap length e in omega (arith, n))
-drop-further (suc k) (c ∷ bs) b rest e = drop-further k bs b rest e
+drop-further (suc k) (c ∷ bs) b rest e = let n : suc k + 1 ≡ suc (k + 1) = omega arith in ap (λ i. drop i (c ∷ bs)) n ∙ drop-further k bs b rest e
 
 -- ---- a definition
 
@@ -63,7 +62,7 @@ value-short rest = omega (arith, length-drop (position_or_len (λ b. b == 61) re
 
 -- ---- the rest of a script line
 
-rest-in : List ℕ → Option (ScriptWord × List ℕ) → List ℕ
+abbrev rest-in : List ℕ → Option (ScriptWord × List ℕ) → List ℕ
 rest-in r None = r
 rest-in r (Some h) = h.1
 

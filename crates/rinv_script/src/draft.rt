@@ -1,7 +1,7 @@
 //! What the lines of a script told so far.
 
-ghost use Rattle.std.specs.Prelude.{◌≡◌, ◌<◌, ◌≤◌, ◌-◌, ◌^◌, ◌++◌, ◌∷◌, [], length, map, IsTrue, IfOk, IfErr, OnOk, All, None};
-ghost use Rattle.std.specs.List.{list_all};
+ghost use Rattle.std.specs.Prelude.{◌≡◌, ◌<◌, ◌≤◌, ◌-◌, ◌^◌, ◌++◌, ◌∷◌, [], length, map, bytes_eq, false, IsTrue, IfOk, IfErr, OnOk, All, None};
+ghost use Rattle.std.specs.List.{list_all, list_any};
 ghost use Rattle.rinv_algebra.specs.Monomial.{total_degree};
 ghost use Rattle.rinv_text.specs.Names.{is_new_name};
 ghost use Rattle.rinv_system.specs.Drafts.{group_names, space_names, has_begun, is_whole};
@@ -55,6 +55,29 @@ fn code_behind(next: Option<TextCode>, code: TextCode) -> TextCode
     } else {
         next.unwrap_or(code)
     }
+}
+
+// Puts a name behind the names, and its abbreviation behind the others.
+fn add_both(
+    alloc: Global,
+    names: &mut Names,
+    defs: &mut Defs,
+    name: &str,
+    value: Frac,
+    formal: Formal,
+) -> Result<(), NoMemory>
+    requires names { list_any (bytes_eq name.now) names.old ≡ false }
+    requires defs { list_any (λ d. bytes_eq name.now d.name) defs.old ≡ false }
+    requires numerator { All (λ t. total_degree t.0 ≤ formal.num_degree) value.0 }
+    requires denominator { All (λ t. total_degree t.0 ≤ formal.den_degree) value.1 }
+    ensures names { OnOk result (names.new ≡ names.old ++ name.now ∷ []) }
+    ensures defs { OnOk result (defs.new ≡ defs.old ++ (record { name = name.now; value = value; formal = formal }) ∷ []) }
+{
+    let key = String::from_str(alloc, name)?;
+    let text = String::from_str(alloc, name)?;
+    names.push(key)?;
+    defs.add(text, value, formal)?;
+    Ok(())
 }
 
 impl ScriptDraft {
@@ -168,7 +191,7 @@ impl ScriptDraft {
         }
     }
 
-    /// Adds an abbreviation.
+    /// Adds an abbreviation. Without memory the draft is left with none, so that both lists agree.
     pub(crate) fn define(
         &mut self,
         alloc: Global,
@@ -181,11 +204,21 @@ impl ScriptDraft {
         requires denominator { All (λ t. total_degree t.0 ≤ formal.den_degree) value.1 }
         ensures { OnOk result (self.new ≡ record self.old { defs = self.old.defs ++ (record { name = name.now; value = value; formal = formal }) ∷ [] }) }
     {
-        let key = String::from_str(alloc, name)?;
-        let text = String::from_str(alloc, name)?;
-        self.defined.push(key)?;
-        self.defs.add(text, value, formal)?;
-        Ok(())
+        match add_both(
+            alloc,
+            &mut self.defined,
+            &mut self.defs,
+            name,
+            value,
+            formal,
+        ) {
+            Ok(()) => Ok(()),
+            Err(error) => {
+                self.defined = Names::empty(alloc);
+                self.defs = Defs::empty(alloc);
+                Err(error)
+            }
+        }
     }
 
     /// The lines of the system, and the queries.

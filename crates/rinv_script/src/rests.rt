@@ -10,7 +10,6 @@ ghost use Rattle.rinv_script.specs.declared.words.ScriptWord.{ScriptWord as Word
 ghost use Rattle.rinv_script.specs.Queries.{Query as Asked};
 ghost use Rattle.rinv_script.specs.Words.{AsksAlone, AsksOf};
 ghost use Rattle.rinv_script.specs.Scripts.{defined_name, defined_value, name_fault, IsScriptRestRefused, IsScriptRestTaken};
-ghost use Rattle.rinv_script.specs.Stored.{query_of};
 ghost use Rattle.rinv_script.specs.Kept.{IsKept, IsValueRefused, Defines};
 
 use crate::draft::ScriptDraft;
@@ -78,10 +77,10 @@ fn add_definition(alloc: Global, draft: &mut ScriptDraft, rest: &[u8]) -> Result
     Ok(())
 }
 
-// Adds a query of one word, which the rest of the line must leave alone.
-fn add_word(draft: &mut ScriptDraft, query: Query, rest: &[u8]) -> Result<(), LineStop>
-    ensures ok { OnOk result ((w : Word) → AsksAlone w (query_of query) → IsScriptRestTaken draft.old rest.now w draft.new) }
-    ensures fault { IfErr result (OnCode (λ code. (w : Word) → AsksAlone w (query_of query) → IsScriptRestRefused draft.old rest.now w code)) }
+// Whether the rest of a line is left out, where one query more may be asked.
+fn alone(draft: &ScriptDraft, rest: &[u8]) -> Result<(), LineStop>
+    ensures ok { IfOk result (λ _. (w : Word) (q : Asked) → AsksAlone w q → IsScriptRestTaken draft.now rest.now w (record draft.now { queries = draft.now.queries ++ q ∷ [] })) }
+    ensures fault { IfErr result (OnCode (λ code. (w : Word) (q : Asked) → AsksAlone w q → IsScriptRestRefused draft.now rest.now w code)) }
 {
     if !rest.is_empty() {
         return Err(no_expression());
@@ -89,7 +88,6 @@ fn add_word(draft: &mut ScriptDraft, query: Query, rest: &[u8]) -> Result<(), Li
     if let Some(code) = draft.query_fault() {
         return Err(LineStop::Fault(Code::Text(code)));
     }
-    draft.ask(query)?;
     Ok(())
 }
 
@@ -123,8 +121,14 @@ pub(crate) fn add_rest(
 {
     match word {
         ScriptWord::Def => add_definition(alloc, draft, rest)?,
-        ScriptWord::Laws => add_word(draft, Query::Laws, rest)?,
-        ScriptWord::Generators => add_word(draft, Query::Generators, rest)?,
+        ScriptWord::Laws => {
+            alone(draft, rest)?;
+            draft.ask(Query::Laws)?;
+        }
+        ScriptWord::Generators => {
+            alone(draft, rest)?;
+            draft.ask(Query::Generators)?;
+        }
         ScriptWord::Invariant => {
             let fraction = asked(alloc, draft, rest)?;
             draft.ask(Query::Invariant(fraction))?;

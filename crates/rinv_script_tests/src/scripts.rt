@@ -162,13 +162,16 @@ fn read(alloc: Global, text: &str, form: Form) -> Result<Script, SystemStop> {
     Ok(script)
 }
 
+// Whether the script asks this.
+fn has_asked(script: &Script, expected: &[Row]) -> bool {
+    let field = FracRing::new(PolyRing::new(script.system.field, 2));
+    are(&script.queries, &field, expected)
+}
+
 // Whether the text asks this.
 fn asks(alloc: Global, text: &str, form: Form, expected: &[Row]) -> bool {
     match read(alloc, text, form) {
-        Ok(script) => {
-            let field = FracRing::new(PolyRing::new(script.system.field, 2));
-            are(&script.queries, &field, expected)
-        }
+        Ok(script) => has_asked(&script, expected),
         Err(_) => false,
     }
 }
