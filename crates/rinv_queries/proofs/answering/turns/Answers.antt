@@ -26,7 +26,7 @@ pub returns-in-Err-Degree-clause-stop : goal.returns-in-Err-Degree-clause-stop
 returns-in-Err-Degree-clause-stop c =
     let within : c.queries.k < length c.args.queries.now = omega (arith, c.queries-test.true, c.queries.auto.k-end) in
     let low : c.queries.k ≤ length c.args.queries.now = omega (arith, within) in
-    record {
+    rw (c.in-Err-Degree.left-is, c.in-Err-Degree.right-is) (record {
       before = map query_of (take c.queries.k c.args.queries.now);
       query = query_of c.index-queries-k.result;
       after = map query_of (drop (c.queries.k + 1) c.args.queries.now);
@@ -34,7 +34,7 @@ returns-in-Err-Degree-clause-stop c =
           ∙ ap (λ (q : StoredQuery). map query_of (take c.queries.k c.args.queries.now) ++ query_of q ∷ map query_of (drop (c.queries.k + 1) c.args.queries.now)) (sym c.index-queries-k.is);
       number = ap (λ (n : ℕ). n + 1) (sym (images-number query_of c.args.queries.now c.queries.k low));
       meets = rw c.in-Err-Degree.field-0-is at c.in-Err-Degree.ensures.degree;
-    }
+    })
 
 pub queries-preserved : goal.queries-preserved
 queries-preserved c =
@@ -45,5 +45,5 @@ queries-preserved c =
     subst (λ (qs : List Query). IsPage s cs c.args.page.shown c.args.page.text.items qs c.turn.new.page)
     (sym (images-more query_of c.args.queries.now c.queries.k _ within
     ∙ ap (λ (q : StoredQuery). map query_of (take c.queries.k c.args.queries.now) ++ query_of q ∷ []) (sym c.index-queries-k.is)))
-    (page-more s cs c.args.page.shown c.args.page.text.items (map query_of (take c.queries.k c.args.queries.now)) (query_of c.index-queries-k.result) _ _ c.queries.invariant
-    (subst (λ (n : ℕ). IsTurn s cs n (query_of c.index-queries-k.result) _ c.turn.new.page) (ap (λ (n : ℕ). n + 1) (sym (images-number query_of c.args.queries.now c.queries.k low))) c.in-Ok.ensures.answered))
+    (page-more s cs c.args.page.shown c.args.page.text.items (map query_of (take c.queries.k c.args.queries.now)) (query_of c.index-queries-k.result) c.queries.page _ c.queries.invariant
+    (subst (λ (n : ℕ). IsTurn s cs n (query_of c.index-queries-k.result) c.queries.page c.turn.new.page) (ap (λ (n : ℕ). n + 1) (sym (images-number query_of c.args.queries.now c.queries.k low))) c.in-Ok.ensures.answered))
