@@ -62,16 +62,7 @@ pub fn lawful(alloc: Global, system: &System) -> Result<GroupBasis, Stopped>
     ensures hold { OnOk result (AllLawsHold system.now.system) }
     ensures stop { IfErr result (StopsSo (IsUnlawful system.now)) }
 {
-    let mut budget = budget_of(system);
-    let group = match group_basis(alloc, system, &mut budget) {
-        Ok(group) => group,
-        Err(Stop::Incomplete(halt)) => {
-            let cause = cause_of(system, &halt.why);
-            let text = incomplete_line(alloc, Phase::Group, cause)?;
-            return Err(Stopped::Answer(text, Ending::Incomplete));
-        }
-        Err(Stop::NoMemory) => return Err(Stopped::NoMemory),
-    };
+    let group = grouped(alloc, system)?;
     let hold = laws_hold(alloc, system, &group)?;
     if hold {
         return Ok(group);
@@ -87,6 +78,26 @@ pub fn lawful(alloc: Global, system: &System) -> Result<GroupBasis, Stopped>
             Err(Stopped::Answer(text, Ending::Incomplete))
         }
         Err(LawStop::NoMemory) => Err(Stopped::NoMemory),
+    }
+}
+
+// The basis of the group's ideal.
+fn grouped(alloc: Global, system: &System) -> Result<GroupBasis, Stopped>
+    requires system { IsSystem system.now.system }
+    requires limits { IsLimited system.now }
+    ensures basis { IfOk result (λ g. IsGroupBasis system.now.system g.basis g.reduced.items) }
+    ensures within { IfOk result (λ g. IsWithin system.now g.basis.journal) }
+    ensures stop { IfErr result (StopsSo (IsUnlawful system.now)) }
+{
+    let mut budget = budget_of(system);
+    match group_basis(alloc, system, &mut budget) {
+        Ok(group) => Ok(group),
+        Err(Stop::Incomplete(halt)) => {
+            let cause = cause_of(system, &halt.why);
+            let text = incomplete_line(alloc, Phase::Group, cause)?;
+            Err(Stopped::Answer(text, Ending::Incomplete))
+        }
+        Err(Stop::NoMemory) => Err(Stopped::NoMemory),
     }
 }
 

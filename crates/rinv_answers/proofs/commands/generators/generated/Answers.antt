@@ -5,11 +5,11 @@ use Rattle.rinv_answers.specs.Commands.Generators.{IsGenDenial}
 use Rattle.rinv_answers.proofs.Generators.{limits-within}
 use Rattle.rinv_answers.proofs.commands.generators.generated.Goals as goal
 
-pub returns-in-Err-Missed : goal.returns-in-Err-Missed
-returns-in-Err-Missed c = IsGenDenial.missed c.in-Err-Missed.element (rw c.in-Err-Missed.field-0-is at c.in-Err-Missed.ensures.stop) c.in_ok-text-in-Err-Missed.ensures
+pub returns-in-Err-Missed-clause-stop : goal.returns-in-Err-Missed-clause-stop
+returns-in-Err-Missed-clause-stop c = IsGenDenial.missed c.in-Err-Missed.element (rw c.in-Err-Missed.field-0-is at c.in-Err-Missed.ensures.stop) c.in_ok-text-in-Err-Missed.ensures
 
-pub returns-in-Err-Incomplete : goal.returns-in-Err-Incomplete
-returns-in-Err-Incomplete c = record {
+pub returns-in-Err-Incomplete-clause-stop : goal.returns-in-Err-Incomplete-clause-stop
+returns-in-Err-Incomplete-clause-stop c = record {
   phase = c.in-Err-Incomplete.phase;
   journal = journal_of c.in-Err-Incomplete.field-0-1.items;
   why = c.in-Err-Incomplete.why;

@@ -12,4 +12,6 @@ unlawful-tested told text Refused h = h
 unlawful-tested told text Incomplete h = h
 
 pub returns-in-Err-Answer : goal.returns-in-Err-Answer
-returns-in-Err-Answer c = unlawful-tested c.args.system.now c.in-Err-Answer.text.items c.in-Err-Answer.ending (rw c.in-Err-Answer.field-0-is at c.in-Err-Answer.ensures.stop)
+returns-in-Err-Answer c =
+    rw (c.in-Err-Answer.text-is, c.in-Err-Answer.ending-is)
+    (unlawful-tested c.args.system.now c.in-Err-Answer.text.items c.in-Err-Answer.ending (rw c.in-Err-Answer.field-0-is at c.in-Err-Answer.ensures.stop))
