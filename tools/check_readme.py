@@ -13,7 +13,7 @@ import subprocess
 import sys
 
 TOP = pathlib.Path(__file__).resolve().parent.parent
-SHOWN = ["README.md", "examples/README.md", "docs/FORMATS.md"]
+SHOWN = ["README.md", "examples/README.md", "docs/FORMATS.md", "docs/GUIDE.md"]
 PROMPT = "    $ "
 INDENT = "    "
 SECONDS = 120
