@@ -1,0 +1,22 @@
+//! The certificate of generators, which is accepted.
+//!
+//! - `certify`: of kind `full`, or of kind `sound` where the system has a section
+//! - `acceptance`: why it is accepted
+#![tactic(auto)]
+
+pub mod acceptance;
+mod at_graph;
+mod basis;
+mod changes;
+mod common;
+mod ground;
+mod inputs;
+mod laws;
+mod making;
+mod pairs;
+mod plain;
+mod relations;
+mod stop;
+
+pub use making::certify;
+pub use stop::CertifyStop;
