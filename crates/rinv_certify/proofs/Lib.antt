@@ -1,0 +1,5 @@
+pub mod CommonParts
+pub mod PairParts
+pub mod RelationParts
+pub mod FullParts
+pub mod Accepted
