@@ -1,6 +1,7 @@
 -- From a command and bytes to the text and its ending:
 --   Answers       one line a command
 --   Commands      what each command answers, a file a command
+--   Stopped       an answer in place of what was to be found
 --   Told          answers to the text of a system, or to its refusal
 --   Budgets       the pairs and steps that a text allows
 --   Incomplete    the line of a work that ended before its end
@@ -9,6 +10,7 @@
 --   GeneratorLines    the lines of generators
 pub mod Answers
 pub mod Commands
+pub mod Stopped
 pub mod Told
 pub mod Budgets
 pub mod Incomplete

@@ -9,7 +9,14 @@ mod generator_lines;
 mod incomplete;
 mod law_lines;
 mod reply;
+mod stopped;
 
 pub use command::Command;
+pub use commands::generators::generated;
+pub use commands::laws::lawful;
 pub use ending::Ending;
+pub use generator_lines::{complete_line, write_generators};
+pub use incomplete::{Cause, Phase, incomplete_line};
+pub use law_lines::refused_line;
 pub use reply::answer;
+pub use stopped::Stopped;
