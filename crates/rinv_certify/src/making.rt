@@ -1,7 +1,8 @@
 //! The certificate as a whole.
 
-ghost use Rattle.std.specs.Prelude.{◌≡◌, [], IfOk, IfErr};
+ghost use Rattle.std.specs.Prelude.{◌≡◌, ◌<◌, ◌^◌, [], length, IfOk, IfErr};
 ghost use Rattle.rinv_defs.specs.Accepted.{IsAccepted};
+ghost use Rattle.rinv_json.specs.Ranges.{IsWritable};
 ghost use Rattle.rinv_cert.specs.Seen.{plain};
 ghost use Rattle.rinv_generators.specs.Generated.{Generated};
 ghost use Rattle.rinv_certify.specs.Made.{IsCertificateOf};
@@ -27,8 +28,13 @@ use std::alloc::Global;
 pub fn certify(alloc: Global, gens: &Generators) -> Result<Certificate, CertifyStop>
     ensures made { IfOk result (λ c. IsCertificateOf gens.now (plain c)) }
     ensures accepted { IfOk result (λ c. IsAccepted (plain c)) }
+    ensures writable { IfOk result (λ c. IsWritable (plain c)) }
     ensures degree { IfErr result (StopsAt (CertificateMeets gens.now)) }
 {
+    // Places are u32: where there are more, that is answered as want of memory.
+    if gens.action.polys.len() > u32::MAX as usize || gens.fractions.len() > u32::MAX as usize {
+        return Err(CertifyStop::NoMemory);
+    }
     let common = common_part(alloc, gens)?;
     laws_fit(alloc, gens)?;
     changes_fit(alloc, gens)?;
@@ -42,6 +48,8 @@ pub fn certify(alloc: Global, gens: &Generators) -> Result<Certificate, CertifyS
 
 // With the basis, and what shows that it is one, and the relations.
 fn full(alloc: Global, gens: &Generators, common: Common) -> Result<Certificate, CertifyStop>
+    requires elements { length gens.now.action.polys < 2 ^ 32 }
+    requires fractions { length gens.now.fractions < 2 ^ 32 }
     requires section { gens.now.told.system.section ≡ [] }
     requires common { IsCommon gens.now common }
     requires laws { LawsFit gens.now }

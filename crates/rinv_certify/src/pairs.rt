@@ -1,6 +1,6 @@
 //! The key `pairs`: the entries of the action's journal.
 
-ghost use Rattle.std.specs.Prelude.{IfOk, IfErr};
+ghost use Rattle.std.specs.Prelude.{◌<◌, ◌^◌, length, IfOk, IfErr};
 ghost use Rattle.rinv_ring.specs.Fault.{DegreesMeet};
 ghost use Rattle.rinv_certify.specs.Made.{ArePairItemsOf};
 ghost use Rattle.rinv_certify.specs.Meets.{PairsMeet};
@@ -18,6 +18,7 @@ pub(crate) fn pair_items(
     alloc: Global,
     gens: &Generators,
 ) -> Result<Items<PairItem<Plain>>, RingFault>
+    requires few { length gens.now.action.polys < 2 ^ 32 }
     ensures items { IfOk result (λ ps. ArePairItemsOf gens.now.told.system gens.now.action (pairs_seen ps)) }
     ensures fits { IfOk result (λ ps. PairsFit gens.now (pairs_seen ps)) }
     ensures degree { IfErr result (DegreesMeet (PairsMeet gens.now)) }

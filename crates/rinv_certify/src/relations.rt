@@ -1,6 +1,6 @@
 //! The key `relations`: the relations over the common denominators of their coefficients, with the cofactors of their values at Z = g.
 
-ghost use Rattle.std.specs.Prelude.{◌≡◌, [], IfOk, IfErr};
+ghost use Rattle.std.specs.Prelude.{◌≡◌, ◌<◌, ◌^◌, [], length, IfOk, IfErr};
 ghost use Rattle.rinv_ring.specs.Fault.{DegreesMeet};
 ghost use Rattle.rinv_certify.specs.Made.{AreRelationItemsOf};
 ghost use Rattle.rinv_certify.specs.Meets.{RelationsMeet};
@@ -19,6 +19,7 @@ pub(crate) fn relation_items(
     gens: &Generators,
     ground: &Ground,
 ) -> Result<Items<RelationItem<Plain>>, RingFault>
+    requires few { length gens.now.fractions < 2 ^ 32 }
     requires section { gens.now.told.system.section ≡ [] }
     requires ground { IsGround gens.now.told.system gens.now.group ground.now }
     ensures items { IfOk result (λ rs. AreRelationItemsOf gens.now (relations_seen rs)) }
