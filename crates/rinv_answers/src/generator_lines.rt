@@ -81,11 +81,7 @@ pub fn complete_line(system: &System) -> &'static [u8]
 }
 
 /// The section misses the orbits, as the polynomial shows.
-pub(crate) fn missed_line(
-    alloc: Global,
-    system: &System,
-    element: &KPoly,
-) -> Result<Vec<u8>, NoMemory>
+pub fn missed_line(alloc: Global, system: &System, element: &KPoly) -> Result<Vec<u8>, NoMemory>
     requires system { IsSystem system.now.system }
     requires element { IsNormal (residue_ops system.now.system.p) (λ c. nat_lt c system.now.system.p) (space_count system.now.system) element.now }
     ensures { IfOk result (λ v. v.items ≡ missed_text system.now.system element.now) }
