@@ -63,3 +63,11 @@ module _ (p v : ℕ) (f g : Poly) where
   pub meet-by_degrees : IsNormal (residue_ops p) (λ c. nat_lt c p) v f → IsNormal (residue_ops p) (λ c. nat_lt c p) v g → (a b : ℕ) → IsDegreeOf f a → IsDegreeOf g b → max_degree < a + b → MonomialsMeet (residue_ops p) f g a b
   meet-by_degrees nf ng a b left right over =
       meet-from_terms (residue_ops p) (residue_laws p) (λ c. nat_lt c p) v f g a b (ordered-from_normal (residue_ops p) (λ c. nat_lt c p) v f nf) (ordered-from_normal (residue_ops p) (λ c. nat_lt c p) v g ng) (record { left = left; right = right; over = over })
+
+-- before any term
+pub greatest-none : (f : Poly) → IsGreatest f 0 0
+greatest-none f = record { all = λ i d h. absurd (omega (arith, h)); some = λ h. absurd (omega (arith, h)); none = λ e. refl; low = omega arith }
+
+-- after all
+pub greatest-all : (f : Poly) (k n : ℕ) → length f ≤ k → IsGreatest f k n → All (λ t. total_degree t.0 ≤ n) f
+greatest-all f k n past g = subst (λ h. All (λ t. total_degree t.0 ≤ n) h) (take_all k f past) g.all
