@@ -23,7 +23,7 @@ use rinv_text::System;
 use std::alloc::Global;
 
 /// The ring of changes.
-pub(crate) fn change_ring(system: &System) -> PolyRing<Gf>
+pub fn change_ring(system: &System) -> PolyRing<Gf>
     requires { IsSystem system.now.system }
     ensures { IsChangeRing system.now.system result.coeffs result.vars }
 {

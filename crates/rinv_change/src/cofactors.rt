@@ -38,7 +38,7 @@ use std::alloc::Global;
 /// For each kept element of the group's basis its cofactors over the group's ideal, in the variables of a change.
 #[derive(Drop)]
 pub struct KeptCofactors {
-    pub(crate) lists: Vec<Vec<KPoly>>,
+    pub lists: Vec<Vec<KPoly>>,
 }
 
 // The polynomials, in further variables.
@@ -152,8 +152,9 @@ fn quotients_of(
     Ok(quotients)
 }
 
-// The sums of the quotients times the cofactors at each of so many places of the lists.
-fn sums_of_products(
+/// The sums of the quotients times the cofactors at each of so many places of the lists. Degree comes only where a quotient times a
+/// cofactor meets these degrees.
+pub fn sums_of_products(
     alloc: Global,
     ring: &PolyRing<Gf>,
     quotients: &[KPoly],

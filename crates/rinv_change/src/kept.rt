@@ -22,9 +22,9 @@ use std::alloc::Global;
 
 /// Polynomials, and the divisors made of them.
 #[derive(Drop)]
-pub(crate) struct KeptBasis {
-    pub(crate) polys: Vec<KPoly>,
-    pub(crate) divisors: Divisors<Gf>,
+pub struct KeptBasis {
+    pub polys: Vec<KPoly>,
+    pub divisors: Divisors<Gf>,
 }
 
 // The polynomials at the places, in further variables.
@@ -77,7 +77,7 @@ fn chosen_basis(
 }
 
 /// The kept elements of the group's basis in the ring of changes, ready for division.
-pub(crate) fn kept_basis(
+pub fn kept_basis(
     alloc: Global,
     system: &System,
     group: &GroupBasis,
