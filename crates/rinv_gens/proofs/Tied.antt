@@ -24,7 +24,7 @@ use Rattle.rinv_coefficients.specs.Ties.{HasValueOf, TiedRelation, Ties}
 use Rattle.rinv_gens.specs.Numbering.{with_new}
 
 -- one more at the end of both lists
-zip-push : {A B : Type 0} (R : A → B → Type 0) (xs : List A) (ys : List B) (x : A) (y : B) → AllZip R xs ys → R x y → AllZip R (xs ++ x ∷ []) (ys ++ y ∷ [])
+pub zip-push : {A B : Type 0} (R : A → B → Type 0) (xs : List A) (ys : List B) (x : A) (y : B) → AllZip R xs ys → R x y → AllZip R (xs ++ x ∷ []) (ys ++ y ∷ [])
 zip-push R [] [] x y h r = (r, tt)
 zip-push R [] (b ∷ ys) x y h r = absurd h
 zip-push R (a ∷ xs) [] x y h r = absurd h

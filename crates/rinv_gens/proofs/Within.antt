@@ -1,4 +1,5 @@
 -- A journal of a halt is within what the text allows, over both runs.
+--   one, two             one run, and both
 --   halts-within
 use Rattle.std.proofs.Common.{ℕ, ◌-◌, ◌^◌, ◌<◌, List, ◌++◌, sym, ◌∙◌, subst, arith, inl, inr, length-append}
 use Rattle.rinv_groebner.specs.Journal.{Entry}
@@ -22,7 +23,7 @@ module _ (told : Told) (low_pairs : told.pairs < 2 ^ 32 - 1) (low_steps : told.s
   }
 
   -- a second one with what the first leaves
-  two : (first second : List Entry) (more : ℕ) (left after : Budget) → SpendsOn first 0 (budget_of told) left → SpendsOn second more left after → IsKept after → IsWithin told (first ++ second)
+  pub two : (first second : List Entry) (more : ℕ) (left after : Budget) → SpendsOn first 0 (budget_of told) left → SpendsOn second more left after → IsKept after → IsWithin told (first ++ second)
   two first second more left after s t kept = record {
     pairs = omega (arith, low_pairs, s.pairs_spent, s.limits.pairs, t.pairs_spent, t.limits.pairs, kept.pairs (t.limits.endless ∙ s.limits.endless), length-append first second);
     steps = omega (arith, low_steps, s.steps_spent, s.limits.steps, t.steps_spent, t.limits.steps, kept.steps (t.limits.endless ∙ s.limits.endless), steps-append first second);

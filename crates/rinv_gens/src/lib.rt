@@ -2,6 +2,7 @@
 //!
 //! - `pieces`: from a system to the reduced basis of its extended ideal and its generators, with no cofactors
 //! - `Findings`, `GenStop`: what was found, or why nothing is
+//! - `number_coefficients`: relations whose coefficients are tied to their generators
 //! - `budgets_are_met`: what a halt says of its journal
 #![tactic(auto)]
 
@@ -17,3 +18,4 @@ mod tying;
 
 pub use finding::pieces;
 pub use kinds::{Findings, GenStop, Phase, Relation, Symbol};
+pub use numbering::{Numbered, number_coefficients};

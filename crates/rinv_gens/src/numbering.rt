@@ -18,13 +18,14 @@ use std::alloc::Global;
 
 /// Relations whose coefficients are tied, and the generators.
 #[derive(Drop)]
-pub(crate) struct Numbered {
-    pub(crate) relations: Vec<Relation>,
-    pub(crate) fractions: Vec<Frac>,
+pub struct Numbered {
+    pub relations: Vec<Relation>,
+    pub fractions: Vec<Frac>,
 }
 
-/// The relations with their coefficients tied, relation by relation, each from its greatest monomial down.
-pub(crate) fn number_coefficients(
+/// The relations with their coefficients tied, relation by relation, each from its greatest monomial down. Degree comes only where the
+/// comparison of a coefficient with an earlier one meets these degrees.
+pub fn number_coefficients(
     field: &FracRing,
     alloc: Global,
     monic: &Monic,

@@ -105,6 +105,7 @@ pub(crate) fn relate(
     requires action { IsActionBasis system.now.system action.now }
     ensures met { IfOk result (λ _. ¬ (Misses system.now.system)) }
     ensures monic { IfOk result (λ r. IsOrderedBasis system.now.system r.monic) }
+    ensures monic_stored { IfOk result (λ r. All (IsStoredRelation system.now.system.p (space_count system.now.system)) r.monic) }
     ensures fractions { IfOk result (λ r. r.numbered.fractions.items ≡ generators_of system.now.system.p r.monic) }
     ensures stored { IfOk result (λ r. All (IsStored system.now.system.p (space_count system.now.system)) r.numbered.fractions.items) }
     ensures relations { IfOk result (λ r. AllZip (Ties system.now.system.p r.numbered.fractions.items) r.numbered.relations.items r.monic) }

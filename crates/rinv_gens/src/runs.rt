@@ -5,6 +5,7 @@ ghost use Rattle.std.specs.Prelude.{◌≡◌, ◌++◌, IfOk, IfErr};
 ghost use Rattle.rinv_defs.specs.SystemForm.{IsSystem};
 ghost use Rattle.rinv_defs.specs.Laws.{AllLawsHold};
 ghost use Rattle.rinv_buch.specs.Kinds.{journal_of};
+ghost use Rattle.rinv_laws.specs.Group.{IsGroupBasis};
 ghost use Rattle.rinv_gens.specs.Runs.{BothEnd, GroupEnds, budget_of};
 ghost use Rattle.rinv_gens.specs.Halts.{GenStopsSo};
 
@@ -104,6 +105,7 @@ pub(crate) fn followed(group: GroupBasis, second: Vec<Entry>) -> Result<Vec<Entr
 /// Both bases, where the laws hold.
 pub(crate) fn both_runs(alloc: Global, system: &System) -> Result<Runs, GenStop>
     requires { IsSystem system.now.system }
+    ensures group { IfOk result (λ r. IsGroupBasis system.now.system r.group.basis r.group.reduced.items) }
     ensures ends { IfOk result (λ r. BothEnd system.now r.group.basis r.action) }
     ensures hold { IfOk result (λ r. AllLawsHold system.now.system) }
     ensures stop { IfErr result (GenStopsSo system.now) }

@@ -1,0 +1,4 @@
+mod ProvedFractions
+mod Stopping
+mod Together
+mod MetInProofs
