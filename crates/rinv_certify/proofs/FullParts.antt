@@ -52,7 +52,8 @@ use Rattle.rinv_acceptance.proofs.HeldConditions.{SumsOnGraph, basis_holds, inpu
 use Rattle.rinv_acceptance.proofs.CoveredBasis.{leads_hold}
 use Rattle.rinv_acceptance.proofs.Forms.{first_none, all_conditions}
 use Rattle.rinv_change.specs.Changes.{change_count}
-use Rattle.rinv_certify.specs.Made.{list_before, IsPairItemOf, IsBasisItemOf, IsRelationItemOf, HasBasisPart}
+use Rattle.rinv_recording.specs.Recorded.{elements_after, IsPairItemOf}
+use Rattle.rinv_certify.specs.Made.{IsBasisItemOf, IsRelationItemOf, HasBasisPart}
 use Rattle.rinv_certify.proofs.CommonParts.{equal, cofactors_form, with_keys, common_form, law_form, laws_shown, changes_shown}
 use Rattle.rinv_certify.proofs.PairParts.{StandsFor, pair_items}
 use Rattle.rinv_certify.proofs.RelationParts.{relation_leads, relations_shown, relations_formed}
@@ -141,7 +142,7 @@ module _ (g : Generated) (gens : IsGenerators g) (none : g.told.system.section �
   stand : AllZip (StandsFor C g.action c.pairs (action_ideal g.told.system) given_first order elements_are gens.action.journal) c.pairs g.action.journal
   stand = pair_items C g.action c.pairs (action_ideal g.told.system) given_first order elements_are gens.action.journal part.pairs.number
       (subst (λ (t : System). (k : ℕ) (e : Entry) (item : PairItem) → k < length c.pairs → e ≡ get_or g.action.journal k e → item ≡ get_or c.pairs k item
-      → IsPairItemOf t (list_before t (action_ideal g.told.system) g.action k) (length g.action.polys) e.first e.second e.kind item) (sym same_system) part.pairs.each)
+      → IsPairItemOf t (take (elements_after t (action_ideal g.told.system) (take k g.action.journal)) g.action.polys) (length g.action.polys) e.first e.second e.kind item) (sym same_system) part.pairs.each)
 
   journal_here : Journal (residue_ops g.told.system.p) (action_order g.told.system) (action_ideal g.told.system) g.action.journal (elements C)
   journal_here = subst (Journal (residue_ops g.told.system.p) (action_order g.told.system) (action_ideal g.told.system) g.action.journal) (sym elements_are) gens.action.journal

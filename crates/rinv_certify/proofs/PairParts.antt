@@ -37,7 +37,7 @@ use Rattle.rinv_buch.specs.Kinds.{Found}
 use Rattle.rinv_acceptance.proofs.PaddedQuotients.{Pads, padded_quotients}
 use Rattle.rinv_acceptance.proofs.JournalPrefixes.{Before, made_begins, journal_before}
 use Rattle.rinv_acceptance.proofs.JournalItems.{IsItem, variables_of}
-use Rattle.rinv_certify.specs.Made.{elements_after, padded, AreRecorded, IsPairItemOf}
+use Rattle.rinv_recording.specs.Recorded.{elements_after, padded, AreRecorded, IsPairItemOf}
 use Rattle.rinv_certify.proofs.CommonParts.{equal, list_passes}
 
 -- the entries that add an element
@@ -141,7 +141,7 @@ module _ (s : System) (given : List Poly) (given_first : AllFirst (residue_ops s
   pub recorded_form : (added : Option ℕ) → e.kind ≡ reduced added → (q : List Poly) → AreRecorded s b.list (length polys) e.first e.second added q → are_good s (length polys) v q ≡ true
   recorded_form added k q r = and_true _ _ (equal _ _ (same-length (residue_ops s.p) q _ r.recorded ∙ long added k r.quotients (quotients_count added q r))) (list_passes (is_good s v) q r.normal)
     where
-      long : (added : Option ℕ) → e.kind ≡ reduced added → (qs : List Poly) → length qs ≡ length b.list → length (padded s (length polys) qs added) ≡ length polys
+      long : (added : Option ℕ) → e.kind ≡ reduced added → (qs : List Poly) → length qs ≡ length b.list → length (padded s.p (length polys) qs added) ≡ length polys
       long None k qs count =
           let makes : Makes (residue_ops s.p) (action_order s) before b.list e.first e.second e.steps (reduced None) b.made = subst (λ k. Makes (residue_ops s.p) (action_order s) before b.list e.first e.second e.steps k b.made) k b.entry.makes in
           omega (arith, count, ap length makes.0, ap length b.whole, length-append b.made b.more, length-append qs (replicate (length polys - length qs) []), length-replicate {A = Poly} (length polys - length qs) [])

@@ -1,9 +1,7 @@
 -- The certificate of generators:
---   AtGraph              values at Z = g, and their cofactors
 --   Made                 what each key of the certificate is made of
 --   Meets, Stopped       the degrees that its making meets, and what a stop says
 --   Parts                its parts, as values
-pub mod AtGraph
 pub mod Made
 pub mod Meets
 pub mod Stopped

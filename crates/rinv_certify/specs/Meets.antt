@@ -1,23 +1,17 @@
 -- The degrees that the making of a certificate may meet, or the multiplying out of what it states.
 --   LawsMeet, ChangesMeet          in the laws, and in the changes of the generators
---   PairsMeet                      in the pairs of the action's journal
+--   ElementsMeet                   in the cofactors of the elements of the basis
 --   RaisingMeets, RelationsMeet    in the common denominators of relations, and in relations
 --   CertificateMeets               in the whole
-use Rattle.std.specs.Prelude.{◌≡◌, ◌⊎◌, ℕ, ◌+◌, ◌*◌, ◌<◌, List, [], ◌∷◌, ◌++◌, length, get_or, nat_lt, zip, Contains, Option}
+use Rattle.std.specs.Prelude.{◌≡◌, ◌⊎◌, ℕ, ◌<◌, List, [], ◌∷◌, ◌++◌, length, zip, Contains}
 use Rattle.rinv_algebra.specs.Residue.{residue_ops}
-use Rattle.rinv_algebra.specs.Leading.{multiplier}
 use Rattle.rinv_groebner.specs.Division.{AreSame}
-use Rattle.rinv_groebner.specs.Journal.{Entry}
 use Rattle.rinv_poly.specs.Faults.{MonomialsMeet}
-use Rattle.rinv_sub.specs.Refusal.{never}
-use Rattle.rinv_div.specs.Stops.{StepsMeet}
-use Rattle.rinv_buch.specs.Runs.{s_at}
-use Rattle.rinv_defs.specs.System.{System, Poly, group_count, space_count, ideal_copies}
+use Rattle.rinv_defs.specs.System.{System, Poly, ideal_copies}
 use Rattle.rinv_defs.specs.Laws.{Law, copies, parts}
 use Rattle.rinv_defs.specs.Invariant.{Fraction}
-use Rattle.rinv_defs.specs.Extended.{Relation, action_ideal}
+use Rattle.rinv_defs.specs.Extended.{Relation}
 use Rattle.rinv_defs.specs.Certificate.{Tied, to_constant, to_generator, TailItem, RelationItem}
-use Rattle.rinv_defs.specs.PairConditions.{action_order}
 use Rattle.rinv_defs.specs.RelationConditions.{z_power, behind_z, relation_of}
 use Rattle.rinv_parts.specs.LawNames.{variables_of}
 use Rattle.rinv_parts.specs.Parts.{part_meets}
@@ -28,8 +22,9 @@ use Rattle.rinv_coefficients.specs.Ties.{TiedRelation}
 use Rattle.rinv_acceptance.specs.Denominators.{once, product_from, other_factors}
 use Rattle.rinv_acceptance.specs.Raised.{IsRaised, denominators}
 use Rattle.rinv_generators.specs.Generated.{Generated}
-use Rattle.rinv_certify.specs.AtGraph.{AtGraphMeets, SumsMeet}
-use Rattle.rinv_certify.specs.Made.{list_before, AreRecorded}
+use Rattle.rinv_fits.specs.Sums.{SumsMeet}
+use Rattle.rinv_recording.specs.Recorded.{PairsMeet}
+use Rattle.rinv_at_graph.specs.AtGraph.{AtGraphMeets}
 
 -- ---- the laws and the changes
 
@@ -58,30 +53,11 @@ pub data ChangeMeets (g : Generated) (f : Fraction) (x y : ℕ) : Type 0 where
 abbrev pub ChangesMeet : Generated → ℕ → ℕ → Type 0
 ChangesMeet g x y = (f : Fraction) × Contains g.fractions f × ChangeMeets g f x y
 
--- ---- the basis and the pairs
+-- ---- the basis
 
 -- the cofactors of some element meet these degrees
 abbrev pub ElementsMeet : Generated → ℕ → ℕ → Type 0
 ElementsMeet g x y = (h : Poly) × Contains g.action.polys h × AtGraphMeets g.told.system g.group h x y
-
--- the multiple of f in its S-polynomial with h meets these degrees
-abbrev pub MultipleMeets : System → (f h : Poly) → ℕ → ℕ → Type 0
-MultipleMeets s f h x y = MonomialsMeet (residue_ops s.p) (multiplier (residue_ops s.p) (action_order s) f h ∷ []) f x y
-
--- the pair of two places of a list does: in its S-polynomial, in the division of that, or as the quotients are multiplied by the basis
-pub data PairMeets (s : System) (list polys : List Poly) (i j : ℕ) (x y : ℕ) : Type 0 where
-  in_first : MultipleMeets s (get_or list i []) (get_or list j []) x y → PairMeets s list polys i j x y
-  in_second : MultipleMeets s (get_or list j []) (get_or list i []) x y → PairMeets s list polys i j x y
-  in_division : StepsMeet (residue_ops s.p) (action_order s) list (s_at (residue_ops s.p) (action_order s) list i j) (λ c. nat_lt c s.p) never x y → PairMeets s list polys i j x y
-  in_identity : (added : Option ℕ) (q : List Poly) → AreRecorded s list (length polys) i j added q → SumsMeet s.p (group_count s + 2 * space_count s) q polys x y → PairMeets s list polys i j x y
-
--- so does that of some entry of the action's journal
-pub record PairsMeet (g : Generated) (x y : ℕ) : Type 0 where
-  pub place : ℕ
-  pub entry : Entry
-  pub inside : place < length g.action.journal
-  pub stands : entry ≡ get_or g.action.journal place entry
-  pub meets : PairMeets g.told.system (list_before g.told.system (action_ideal g.told.system) g.action place) g.action.polys entry.first entry.second x y
 
 -- ---- the relations
 
@@ -128,5 +104,5 @@ pub data CertificateMeets (g : Generated) (x y : ℕ) : Type 0 where
   in_changes : ChangesMeet g x y → CertificateMeets g x y
   in_group : g.told.system.section ≡ [] → BasisMeets g.told.system g.group x y → CertificateMeets g x y
   in_elements : g.told.system.section ≡ [] → ElementsMeet g x y → CertificateMeets g x y
-  in_pairs : g.told.system.section ≡ [] → PairsMeet g x y → CertificateMeets g x y
+  in_pairs : g.told.system.section ≡ [] → PairsMeet g.told.system g.action x y → CertificateMeets g x y
   in_relations : g.told.system.section ≡ [] → RelationsMeet g x y → CertificateMeets g x y

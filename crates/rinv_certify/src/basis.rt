@@ -3,11 +3,12 @@
 ghost use Rattle.std.specs.Prelude.{◌≡◌, [], IfOk, IfErr};
 ghost use Rattle.std.specs.List.{AllZip};
 ghost use Rattle.rinv_ring.specs.Fault.{DegreesMeet};
+ghost use Rattle.rinv_at_graph.specs.Grounds.{IsGround};
 ghost use Rattle.rinv_certify.specs.Made.{IsBasisItemOf};
 ghost use Rattle.rinv_certify.specs.Meets.{ElementsMeet};
-ghost use Rattle.rinv_certify.specs.Parts.{IsGround, BasisFits, basis_seen};
+ghost use Rattle.rinv_certify.specs.Parts.{BasisFits, basis_seen};
 
-use crate::ground::Ground;
+use rinv_at_graph::Ground;
 use rinv_cert::{BasisItem, Items, Plain};
 use rinv_generators::kinds::Generators;
 use rinv_ring::RingFault;

@@ -4,11 +4,11 @@ ghost use Rattle.std.specs.Prelude.{◌≡◌, [], map, IfOk};
 ghost use Rattle.rinv_cert.specs.Seen.{system_by};
 ghost use Rattle.rinv_certify.specs.Parts.{IsCommon};
 
-use crate::plain::{plain, plain_list, plain_lists};
 use rinv_cert::{Items, Name, Plain, System};
 use rinv_frac::{Frac, FracRing};
 use rinv_generators::kinds::Generators;
 use rinv_parts::LawName;
+use rinv_plain::{plain, plain_list, plain_lists};
 use rinv_poly::{KPoly, PolyRing};
 use rinv_ring::NoMemory;
 use rinv_text::{Names, System as Acting};

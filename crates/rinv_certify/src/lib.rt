@@ -5,16 +5,12 @@
 #![tactic(auto)]
 
 pub mod acceptance;
-mod at_graph;
 mod basis;
 mod changes;
 mod common;
-mod ground;
 mod inputs;
 mod laws;
 mod making;
-mod pairs;
-mod plain;
 mod relations;
 mod stop;
 

@@ -13,14 +13,14 @@ ghost use Rattle.rinv_certify.specs.Stopped.{StopsAt};
 use crate::basis::basis_items;
 use crate::changes::changes_fit;
 use crate::common::{Common, common_part};
-use crate::ground::ground_of;
 use crate::inputs::rows_of_inputs;
 use crate::laws::laws_fit;
-use crate::pairs::pair_items;
 use crate::relations::relation_items;
 use crate::stop::CertifyStop;
+use rinv_at_graph::ground_of;
 use rinv_cert::{Certificate, CertificateOf, Items, Kind};
 use rinv_generators::kinds::Generators;
+use rinv_recording::recorded_pairs;
 use std::alloc::Global;
 
 /// The certificate of the generators: of kind `full`, or of kind `sound` where the system has a section. It is accepted. Degree comes only
@@ -61,7 +61,7 @@ fn full(alloc: Global, gens: &Generators, common: Common) -> Result<Certificate,
     let ground = ground_of(alloc, &gens.system, &gens.group)?;
     let basis = basis_items(alloc, gens, &ground)?;
     let inputs = rows_of_inputs(alloc, gens)?;
-    let pairs = pair_items(alloc, gens)?;
+    let pairs = recorded_pairs(alloc, &gens.system, &gens.action)?;
     let relations = relation_items(alloc, gens, &ground)?;
     Ok(CertificateOf {
         kind: Kind::Full,

@@ -2,11 +2,12 @@
 
 ghost use Rattle.std.specs.Prelude.{◌≡◌, ◌<◌, ◌^◌, [], length, IfOk, IfErr};
 ghost use Rattle.rinv_ring.specs.Fault.{DegreesMeet};
+ghost use Rattle.rinv_at_graph.specs.Grounds.{IsGround};
 ghost use Rattle.rinv_certify.specs.Made.{AreRelationItemsOf};
 ghost use Rattle.rinv_certify.specs.Meets.{RelationsMeet};
-ghost use Rattle.rinv_certify.specs.Parts.{IsGround, RelationsFit, relations_seen};
+ghost use Rattle.rinv_certify.specs.Parts.{RelationsFit, relations_seen};
 
-use crate::ground::Ground;
+use rinv_at_graph::Ground;
 use rinv_cert::{Items, Plain, RelationItem};
 use rinv_generators::kinds::Generators;
 use rinv_ring::RingFault;
