@@ -3,3 +3,4 @@ pub mod PairParts
 pub mod RelationParts
 pub mod FullParts
 pub mod Accepted
+pub mod Writable
