@@ -58,6 +58,16 @@ use Rattle.rinv_certify.proofs.CommonParts.{equal, cofactors_form, with_keys, co
 use Rattle.rinv_certify.proofs.PairParts.{StandsFor, pair_items}
 use Rattle.rinv_certify.proofs.RelationParts.{relation_leads, relations_shown, relations_formed}
 
+-- the elements of the basis are those of the list
+pub elements_of : (g : Generated) (c : Certificate) → HasBasisPart g c → elements c ≡ g.action.polys
+elements_of g c part = go g.action.polys c.basis part.basis
+  where
+    go : (hs : List Poly) (bs : List BasisItem) → AllZip (IsBasisItemOf g.told.system g.group) hs bs → map (λ b. b.h) bs ≡ hs
+    go [] [] z = refl
+    go [] (b ∷ bs) z = absurd z
+    go (h ∷ hs) [] z = absurd z
+    go (h ∷ hs) (b ∷ bs) z = ap₂ ◌∷◌ z.0.element (go hs bs z.1)
+
 module _ (g : Generated) (gens : IsGenerators g) (none : g.told.system.section ≡ []) (c : Certificate) (part : HasBasisPart g c) where
   abbrev s : System
   s = g.told.system
@@ -81,14 +91,8 @@ module _ (g : Generated) (gens : IsGenerators g) (none : g.told.system.section �
   given_first : AllFirst (residue_ops g.told.system.p) (residue_laws g.told.system.p) v (action_ideal g.told.system)
   given_first = all_first (residue_ops g.told.system.p) (residue_laws g.told.system.p) v (action_ideal g.told.system) (action_in g.told.system gens.form none)
 
-  elements_from : (hs : List Poly) (bs : List BasisItem) → AllZip (IsBasisItemOf g.told.system g.group) hs bs → map (λ b. b.h) bs ≡ hs
-  elements_from [] [] z = refl
-  elements_from [] (b ∷ bs) z = absurd z
-  elements_from (h ∷ hs) [] z = absurd z
-  elements_from (h ∷ hs) (b ∷ bs) z = ap₂ ◌∷◌ z.0.element (elements_from hs bs z.1)
-
   elements_are : elements C ≡ g.action.polys
-  elements_are = elements_from g.action.polys c.basis part.basis
+  elements_are = elements_of g c part
 
   count : length c.basis ≡ length g.action.polys
   count = sym (length-map c.basis (λ b. b.h)) ∙ ap length elements_are

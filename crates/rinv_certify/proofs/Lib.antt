@@ -4,3 +4,6 @@ pub mod RelationParts
 pub mod FullParts
 pub mod Accepted
 pub mod Writable
+pub mod Seen
+pub mod Multiplied
+pub mod Stops

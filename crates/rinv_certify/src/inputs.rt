@@ -38,12 +38,7 @@ fn zero(alloc: Global) -> Plain
 }
 
 // 1 at a place, and zero at the others; where the place is past the count, zero at all.
-fn row(
-    alloc: Global,
-    system: &System,
-    count: usize,
-    place: usize,
-) -> Result<Items<Plain>, NoMemory>
+fn row(alloc: Global, system: &System, count: usize, place: usize) -> Result<Items<Plain>, NoMemory>
     requires { IsSystem system.now.system }
     ensures { IfOk result (λ fs. fs ≡ unit_row system.now.system count place) }
 {
