@@ -69,9 +69,14 @@ pub record FactorsMeet (s : System) (f : Poly) (ds : List Poly) (x y : ℕ) : Ty
   pub factors : ds ≡ before ++ factor ∷ after
   pub meets : MonomialsMeet (residue_ops s.p) (product_from s f before) factor x y
 
+-- so does the first of these times the others
+abbrev pub ProductMeets : System → List Poly → ℕ → ℕ → Type 0
+ProductMeets s [] x y = ⊥
+ProductMeets s (d ∷ ds) x y = FactorsMeet s d ds x y
+
 -- so does the product of a relation's denominators, or a coefficient's numerator times the others
 pub data RaisingMeets (s : System) (r : Relation) (x y : ℕ) : Type 0 where
-  in_denominator : (d : Poly) (ds : List Poly) → once s (denominators r) ≡ d ∷ ds → FactorsMeet s d ds x y → RaisingMeets s r x y
+  in_denominator : ProductMeets s (once s (denominators r)) x y → RaisingMeets s r x y
   in_coefficient : (t : List ℕ × Fraction) → Contains r.tail t → FactorsMeet s t.1.0 (other_factors s (once s (denominators r)) t.1) x y → RaisingMeets s r x y
 
 -- Z^a times a polynomial in the space's variables does

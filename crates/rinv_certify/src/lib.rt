@@ -11,6 +11,7 @@ mod common;
 mod inputs;
 mod laws;
 mod making;
+mod raising;
 mod relations;
 mod stop;
 
