@@ -71,19 +71,19 @@ fn tied(gens: &Generators, d: &KPoly, c: &KPoly, symbol: Symbol) -> Result<Tied,
 
 // A relation over its common denominator: its lead's coefficient, its tail, and the whole as a polynomial in all variables.
 #[derive(Drop)]
-struct Raised {
+struct Whole {
     d: KPoly,
     tail: Vec<TailItem<Plain>>,
     whole: KPoly,
 }
 
 // That of a relation.
-fn raised(
+fn whole_of(
     alloc: Global,
     gens: &Generators,
     relation: &FracRelation,
     symbols: &Relation,
-) -> Result<Raised, RingFault> {
+) -> Result<Whole, RingFault> {
     let system = &gens.system;
     let ring = action_ring(system);
     let factors = denominators_once(alloc, system, relation)?;
@@ -95,8 +95,8 @@ fn raised(
         let c = raised_numerator(alloc, system, &factors, coefficient)?;
         let value = term(alloc, system, mono, &c)?;
         whole = ring.sub(alloc, &whole, &value)?;
-        let (_mono, symbol) = symbols.tail[k];
-        let tied = tied(gens, &d, &c, symbol)?;
+        let (_mono, symbol) = &symbols.tail[k];
+        let tied = tied(gens, &d, &c, *symbol)?;
         let exponents = mono.to_exponents(alloc)?;
         let c = plain(alloc, &c)?;
         tail.push(TailItem {
@@ -105,7 +105,7 @@ fn raised(
             tied,
         })?;
     }
-    Ok(Raised { d, tail, whole })
+    Ok(Whole { d, tail, whole })
 }
 
 // The relation at a place.
@@ -116,7 +116,7 @@ fn relation_item(
     k: usize,
 ) -> Result<RelationItem<Plain>, RingFault> {
     let relation = &gens.monic.relations[k];
-    let Raised { d, tail, whole } = raised(alloc, gens, relation, &gens.relations[k])?;
+    let Whole { d, tail, whole } = whole_of(alloc, gens, relation, &gens.relations[k])?;
     let cofactors = proof_at_graph(alloc, ground, &whole)?;
     let exponents = relation.lead.to_exponents(alloc)?;
     let d = plain(alloc, &d)?;
