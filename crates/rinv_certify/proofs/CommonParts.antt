@@ -11,7 +11,7 @@ use Rattle.std.proofs.lemmas.List.Elements.{All-head, All-tail}
 use Rattle.std.proofs.lemmas.Option.{unwrap_or-slice_get}
 use Rattle.rinv_algebra.specs.Ring.{IsSame}
 use Rattle.rinv_algebra.specs.Residue.{residue_ops}
-use Rattle.rinv_algebra.specs.Polynomial.{poly_ops, same}
+use Rattle.rinv_algebra.specs.Polynomial.{poly_ops, same, is_zero}
 use Rattle.rinv_algebra.specs.Ideal.{combination, IsMember}
 use Rattle.rinv_algebra.proofs.Same.{both, and_true}
 use Rattle.rinv_defs.specs.System.{System, Poly, group_count, space_count, ideal_copies}
@@ -59,8 +59,11 @@ module _ (g : Generated) (gens : IsGenerators g) where
   fractions_good : (fs : List Fraction) → All (IsStored g.told.system.p (space_count g.told.system)) fs → list_all (λ f. is_good g.told.system (space_count g.told.system) f.0 && is_nonzero g.told.system (space_count g.told.system) f.1) fs ≡ true
   fractions_good [] a = refl
   fractions_good (f ∷ fs) a =
-      let h = All-head (IsStored g.told.system.p (space_count g.told.system)) f fs a in
-      and_true _ _ (and_true _ _ h.numerator (and_true _ _ h.denominator (ap not h.nonzero))) (fractions_good fs (All-tail (IsStored g.told.system.p (space_count g.told.system)) f fs a))
+      let s = g.told.system in
+      let n = space_count g.told.system in
+      let h = both (is_good s n f.0 && is_good s n f.1) (not (is_zero (residue_ops s.p) f.1)) (All-head (IsStored s.p n) f fs a) in
+      let k = both (is_good s n f.0) (is_good s n f.1) h.0 in
+      and_true _ _ (and_true _ _ k.0 (and_true _ _ k.1 h.1)) (fractions_good fs (All-tail (IsStored s.p n) f fs a))
 
   invariance_good : (fs : List Fraction) (uss : List (List Poly)) → AllZip (ProvesInvariance g.told.system g.group) fs uss → (length uss ≡ length fs) × (list_all (are_good g.told.system (length g.told.system.ideal) (group_count g.told.system + space_count g.told.system)) uss ≡ true)
   invariance_good [] [] z = (refl, refl)

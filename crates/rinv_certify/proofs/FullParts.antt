@@ -36,6 +36,7 @@ use Rattle.rinv_defs.specs.PairConditions.{action_order, pairs_failure}
 use Rattle.rinv_defs.specs.RelationConditions.{relations_failure, leads_failure}
 use Rattle.rinv_defs.specs.Accepted.{first_failure, IsAccepted}
 use Rattle.rinv_defs.proofs.Sound.{normal_in_variables}
+use Rattle.rinv_defs.proofs.Tests.{not-true}
 use Rattle.rinv_soundness.proofs.GeneratorLists.{within_list}
 use Rattle.rinv_soundness.proofs.SystemForms.{system_form}
 use Rattle.rinv_coefficients.specs.Coefficients.{IsOrderedBasis}
@@ -173,7 +174,7 @@ module _ (g : Generated) (gens : IsGenerators g) (none : g.told.system.section �
   -- ---- the relations
 
   fractions_nonzero : (k : ℕ) → k < length g.fractions → (h : Fraction) → IsFalse (is_zero (residue_ops g.told.system.p) (get_or g.fractions k h).1)
-  fractions_nonzero k low h = (gens.stored k h low).nonzero
+  fractions_nonzero k low h = not-true _ (both _ _ (gens.stored k h low)).1
 
   ordered : IsOrderedBasis C.system g.monic
   ordered = subst (λ (t : System). IsOrderedBasis t g.monic) (sym same_system) gens.monic
