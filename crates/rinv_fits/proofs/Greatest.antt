@@ -28,9 +28,9 @@ greatest-more f k n d t inside at degree low g = record {
   all = subst (λ h. All (λ u. total_degree u.0 ≤ max d n) h) (sym (take_more f k t inside ∙ ap (λ (x : Term ℕ). take k f ++ x ∷ []) (sym at)))
       (All-push (λ (u : Term ℕ). total_degree u.0 ≤ max d n) (take k f) t (λ i e b. let h = g.all i e b in omega (arith, h)) (omega (arith, degree)));
   some = λ _. elim (cases_order n d) [
-    | inl same ↦ subst (IsDegreeOf f) (omega (arith, same)) here
-    | inr (inl below) ↦ subst (IsDegreeOf f) (omega (arith, below)) here
-    | inr (inr above) ↦ subst (IsDegreeOf f) (omega (arith, above)) (g.some (positive above))
+    | inl same ↦ let e : d ≡ max d n = omega (arith, same) in subst (IsDegreeOf f) e here
+    | inr (inl below) ↦ let e : d ≡ max d n = omega (arith, below) in subst (IsDegreeOf f) e here
+    | inr (inr above) ↦ let e : n ≡ max d n = omega (arith, above) in subst (IsDegreeOf f) e (g.some (positive above))
   ];
   none = λ e. absurd (omega (arith, e));
   low = let l = g.low in omega (arith, l, low);
