@@ -1,4 +1,4 @@
 mod ProvedFractions
 mod Stopping
 mod Together
-mod MetInProofs
+pub mod MetInProofs

@@ -2,16 +2,15 @@
 --   IsCertificateFor         the certificate of generators of a system
 --   IsCertified, IsCutShort  it is printed, or why there is none
 --   IsPhaseCut               a phase on the way to the generators, or to their proofs, is halted
-use Rattle.std.specs.Prelude.{◌≡◌, ◌⊎◌, ℕ, List, []}
+use Rattle.std.specs.Prelude.{◌≡◌, ℕ, List, []}
 use Rattle.rinv_groebner.specs.Journal.{Entry}
 use Rattle.rinv_defs.specs.Certificate.{Certificate}
 use Rattle.rinv_defs.specs.Accepted.{IsAccepted}
 use Rattle.rinv_text.specs.Told.{Told}
 use Rattle.rinv_buch.specs.declared.kinds.Why.{Why}
 use Rattle.rinv_gens.specs.declared.kinds.Phase.{Phase}
-use Rattle.rinv_gens.specs.Halts.{HaltsIn}
 use Rattle.rinv_generators.specs.Generated.{Generated, IsGenerators}
-use Rattle.rinv_generators.specs.Stops.{ProvingHaltsIn}
+use Rattle.rinv_generators.specs.Stops.{WorkHaltsIn}
 use Rattle.rinv_certify.specs.Made.{IsCertificateOf}
 use Rattle.rinv_certify.specs.Meets.{CertificateMeets}
 use Rattle.rinv_answers.specs.declared.ending.Ending.{Ending}
@@ -44,7 +43,7 @@ pub record IsPhaseCut (told : Told) (text : List ℕ) : Type 0 where
   pub phase : Phase
   pub journal : List Entry
   pub why : Why
-  pub halts : HaltsIn told phase journal why ⊎ ProvingHaltsIn told phase journal why
+  pub halts : WorkHaltsIn told phase journal why
   pub within : IsWithin told journal
   pub printed : text ≡ incomplete_line (phase_of phase) (cause_of told why)
 
