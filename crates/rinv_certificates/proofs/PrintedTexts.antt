@@ -12,7 +12,7 @@ use Rattle.rinv_json.specs.Written.{json_text}
 use Rattle.rinv_json.proofs.SmallValues.{certificate_line_feed}
 use Rattle.rinv_text.specs.Told.{Told}
 use Rattle.rinv_generators.specs.Generated.{Generated, IsGenerators}
-use Rattle.rinv_certify.specs.Made.{HasCommonPart, IsCertificateOf}
+use Rattle.rinv_certification.specs.Made.{HasCommonPart, IsCertificateOf}
 use Rattle.rinv_certificates.specs.Commands.Certify.{IsCertificateFor, IsCertified}
 use Rattle.rinv_certificates.specs.Texts.{certificate_text, max_text}
 

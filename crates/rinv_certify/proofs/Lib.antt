@@ -1,9 +1,3 @@
-pub mod CommonParts
-pub mod PairParts
-pub mod RelationParts
-pub mod FullParts
-pub mod Accepted
-pub mod Writable
 pub mod Seen
 pub mod Multiplied
 pub mod Stops

@@ -26,9 +26,9 @@ use Rattle.rinv_acceptance.specs.Inputs.{stored_one, unit_row, input_row, input_
 use Rattle.rinv_fits.proofs.Greatest.{fits-by_degrees, fits-empty}
 use Rattle.rinv_recording.specs.Recorded.{PairsFit}
 use Rattle.rinv_generators.specs.Generated.{Generated, IsGenerators}
-use Rattle.rinv_certify.specs.Made.{IsBasisItemOf, HasCommonPart, HasBasisPart}
+use Rattle.rinv_certification.specs.Made.{IsBasisItemOf, HasCommonPart, HasBasisPart}
 use Rattle.rinv_certify.specs.Parts.{LawsFit, ChangesFit, BasisFits, RelationsFit}
-use Rattle.rinv_certify.proofs.FullParts.{elements_of}
+use Rattle.rinv_certification.proofs.FullParts.{elements_of}
 
 -- ---- the inputs
 

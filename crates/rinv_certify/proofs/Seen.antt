@@ -8,7 +8,7 @@ use Rattle.rinv_cert.specs.Seen.{system_by, plain}
 use Rattle.rinv_cert.proofs.Same.{map-same}
 use Rattle.rinv_generators.specs.Generated.{Generated}
 use Rattle.rinv_certify.specs.declared.common.Common.{Common}
-use Rattle.rinv_certify.specs.Made.{HasCommonPart}
+use Rattle.rinv_certification.specs.Made.{HasCommonPart}
 use Rattle.rinv_certify.specs.Parts.{IsCommon}
 
 -- lists of polynomials, seen as they are

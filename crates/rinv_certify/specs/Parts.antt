@@ -12,7 +12,7 @@ use Rattle.rinv_cert.specs.Seen.{system_by, basis_item_by, relation_item_by}
 use Rattle.rinv_acceptance.specs.Fits.{law_multiplies, change_multiplies, at_graph_multiplies, relation_multiplies}
 use Rattle.rinv_generators.specs.Generated.{Generated}
 use Rattle.rinv_certify.specs.declared.common.Common.{Common}
-use Rattle.rinv_certify.specs.Made.{HasCommonPart}
+use Rattle.rinv_certification.specs.Made.{HasCommonPart}
 
 -- ---- values
 

@@ -7,7 +7,7 @@ ghost use Rattle.rinv_cert.specs.Seen.{basis_item_by};
 ghost use Rattle.rinv_acceptance.specs.Fits.{at_graph_multiplies};
 ghost use Rattle.rinv_at_graph.specs.AtGraph.{AtGraphMeets};
 ghost use Rattle.rinv_at_graph.specs.Grounds.{IsGround};
-ghost use Rattle.rinv_certify.specs.Made.{IsBasisItemOf};
+ghost use Rattle.rinv_certification.specs.Made.{IsBasisItemOf};
 ghost use Rattle.rinv_certify.specs.Meets.{ElementsMeet};
 ghost use Rattle.rinv_certify.specs.Parts.{BasisFits, basis_seen};
 

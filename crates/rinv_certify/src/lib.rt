@@ -1,10 +1,8 @@
 //! The certificate of generators, which is accepted.
 //!
 //! - `certify`: of kind `full`, or of kind `sound` where the system has a section
-//! - `acceptance`: why it is accepted
 #![tactic(auto)]
 
-pub mod acceptance;
 mod basis;
 mod changes;
 mod common;

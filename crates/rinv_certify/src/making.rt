@@ -4,7 +4,7 @@ ghost use Rattle.std.specs.Prelude.{◌≡◌, ◌<◌, ◌^◌, [], length, tru
 ghost use Rattle.rinv_defs.specs.Accepted.{IsAccepted};
 ghost use Rattle.rinv_json.specs.Ranges.{IsWritable};
 ghost use Rattle.rinv_cert.specs.Seen.{plain};
-ghost use Rattle.rinv_certify.specs.Made.{IsCertificateOf};
+ghost use Rattle.rinv_certification.specs.Made.{IsCertificateOf};
 ghost use Rattle.rinv_certify.specs.Meets.{CertificateMeets};
 ghost use Rattle.rinv_certify.specs.Parts.{IsCommon, LawsFit, ChangesFit};
 ghost use Rattle.rinv_certify.specs.Stopped.{StopsAt};

@@ -11,7 +11,7 @@ ghost use Rattle.rinv_defs.specs.SystemForm.{IsSystem};
 ghost use Rattle.rinv_defs.specs.RelationConditions.{z_power, behind_z};
 ghost use Rattle.rinv_ring.specs.Fault.{DegreesMeet};
 ghost use Rattle.rinv_at_graph.specs.Grounds.{IsGround};
-ghost use Rattle.rinv_certify.specs.Made.{AreRelationItemsOf};
+ghost use Rattle.rinv_certification.specs.Made.{AreRelationItemsOf};
 ghost use Rattle.rinv_certify.specs.Meets.{RelationsMeet};
 ghost use Rattle.rinv_certify.specs.Parts.{RelationsFit, relations_seen};
 

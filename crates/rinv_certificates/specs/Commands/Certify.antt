@@ -11,7 +11,7 @@ use Rattle.rinv_buch.specs.declared.kinds.Why.{Why}
 use Rattle.rinv_gens.specs.declared.kinds.Phase.{Phase}
 use Rattle.rinv_generators.specs.Generated.{Generated, IsGenerators}
 use Rattle.rinv_generators.specs.Stops.{WorkHaltsIn}
-use Rattle.rinv_certify.specs.Made.{IsCertificateOf}
+use Rattle.rinv_certification.specs.Made.{IsCertificateOf}
 use Rattle.rinv_certify.specs.Meets.{CertificateMeets}
 use Rattle.rinv_answers.specs.declared.ending.Ending.{Ending}
 use Rattle.rinv_answers.specs.declared.ending.Ending.TheVariants.{Done, Denied, Refused, Incomplete}

@@ -1,8 +1,8 @@
 use Rattle.std.proofs.Common.{refl, ◌≡◌, map}
 use Rattle.rinv_cert.specs.Seen.{plain}
 use Rattle.rinv_generators.specs.Generated.{Generated}
-use Rattle.rinv_certify.specs.Made.{HasCommonPart, IsCertificateOf}
-use Rattle.rinv_certify.proofs.Accepted.{certificate_is_accepted}
+use Rattle.rinv_certification.specs.Made.{HasCommonPart, IsCertificateOf}
+use Rattle.rinv_certification.proofs.Accepted.{certificate_is_accepted}
 use Rattle.rinv_certify.proofs.Multiplied.{sound-multiplies}
 use Rattle.rinv_certify.proofs.Seen.{has-common}
 use Rattle.rinv_certify.proofs.making.sound.Goals as goal

@@ -11,9 +11,9 @@ use Rattle.rinv_defs.specs.Accepted.{first_failure, IsAccepted}
 use Rattle.rinv_generators.specs.Generated.{Generated, IsGenerators}
 use Rattle.rinv_acceptance.specs.Fits.{all_multiply, law_multiplies, change_multiplies}
 use Rattle.rinv_acceptance.proofs.Forms.{first_none, all_conditions}
-use Rattle.rinv_certify.specs.Made.{HasCommonPart, IsCertificateOf}
-use Rattle.rinv_certify.proofs.CommonParts.{with_keys, common_form, law_form, laws_shown, changes_shown}
-use Rattle.rinv_certify.proofs.FullParts.{full_accepted}
+use Rattle.rinv_certification.specs.Made.{HasCommonPart, IsCertificateOf}
+use Rattle.rinv_certification.proofs.CommonParts.{with_keys, common_form, law_form, laws_shown, changes_shown}
+use Rattle.rinv_certification.proofs.FullParts.{full_accepted}
 
 module _ (g : Generated) (gens : IsGenerators g) (c : Certificate) where
   -- a certificate is the one with its keys

@@ -33,8 +33,8 @@ use Rattle.rinv_acceptance.proofs.HeldConditions.{IsShownBy}
 use Rattle.rinv_acceptance.proofs.RaisedRelations.{IsTerm, denominator_is, raised_ties, raised_below, raised_forms, raised_distinct}
 use Rattle.rinv_acceptance.proofs.Forms.{power_low, relation_form}
 use Rattle.rinv_change.specs.Changes.{change_count}
-use Rattle.rinv_certify.specs.Made.{IsRelationItemOf}
-use Rattle.rinv_certify.proofs.CommonParts.{cofactors_form}
+use Rattle.rinv_certification.specs.Made.{IsRelationItemOf}
+use Rattle.rinv_certification.proofs.CommonParts.{cofactors_form}
 
 -- what is known of a relation of the reduced basis
 pub record RelationFacts (s : System) (r : Relation) : Type 0 where

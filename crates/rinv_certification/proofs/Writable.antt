@@ -24,7 +24,7 @@ use Rattle.rinv_defs.specs.Accepted.{conditions_of, first_failing, first_failure
 use Rattle.rinv_defs.proofs.Tests.{list_all-implies, parts_true, first_false-append, first_false-append_right}
 use Rattle.rinv_json.specs.Ranges.{is_small, are_small, is_small_poly, are_small_polys, is_small_tied, is_small_pair, is_small_tail, is_small_relation, HaveSmallCommon, HaveSmallLaws, HaveSmallBasis, HaveNoBasis, IsWritable}
 use Rattle.rinv_generators.specs.Generated.{Generated}
-use Rattle.rinv_certify.specs.Made.{IsBasisItemOf, HasCommonPart, HasBasisPart, HasNoBasisPart, IsCertificateOf}
+use Rattle.rinv_certification.specs.Made.{IsBasisItemOf, HasCommonPart, HasBasisPart, HasNoBasisPart, IsCertificateOf}
 
 -- ---- numbers
 

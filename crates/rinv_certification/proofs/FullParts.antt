@@ -54,10 +54,10 @@ use Rattle.rinv_acceptance.proofs.CoveredBasis.{leads_hold}
 use Rattle.rinv_acceptance.proofs.Forms.{first_none, all_conditions}
 use Rattle.rinv_change.specs.Changes.{change_count}
 use Rattle.rinv_recording.specs.Recorded.{elements_after, IsPairItemOf}
-use Rattle.rinv_certify.specs.Made.{IsBasisItemOf, IsRelationItemOf, HasBasisPart}
-use Rattle.rinv_certify.proofs.CommonParts.{equal, cofactors_form, with_keys, common_form, law_form, laws_shown, changes_shown}
-use Rattle.rinv_certify.proofs.PairParts.{StandsFor, pair_items}
-use Rattle.rinv_certify.proofs.RelationParts.{relation_leads, relations_shown, relations_formed}
+use Rattle.rinv_certification.specs.Made.{IsBasisItemOf, IsRelationItemOf, HasBasisPart}
+use Rattle.rinv_certification.proofs.CommonParts.{equal, cofactors_form, with_keys, common_form, law_form, laws_shown, changes_shown}
+use Rattle.rinv_certification.proofs.PairParts.{StandsFor, pair_items}
+use Rattle.rinv_certification.proofs.RelationParts.{relation_leads, relations_shown, relations_formed}
 
 -- the elements of the basis are those of the list
 pub elements_of : (g : Generated) (c : Certificate) → HasBasisPart g c → elements c ≡ g.action.polys

@@ -38,7 +38,7 @@ use Rattle.rinv_acceptance.proofs.PaddedQuotients.{Pads, padded_quotients}
 use Rattle.rinv_acceptance.proofs.JournalPrefixes.{Before, made_begins, journal_before}
 use Rattle.rinv_acceptance.proofs.JournalItems.{IsItem, variables_of}
 use Rattle.rinv_recording.specs.Recorded.{elements_after, padded, AreRecorded, IsPairItemOf}
-use Rattle.rinv_certify.proofs.CommonParts.{equal, list_passes}
+use Rattle.rinv_certification.proofs.CommonParts.{equal, list_passes}
 
 -- the entries that add an element
 abbrev adding : List Entry → List Entry
