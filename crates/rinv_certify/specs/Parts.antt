@@ -2,11 +2,11 @@
 --   IsCommon             the keys of every certificate
 --   basis_seen, relations_seen    lists of items, as contracts see them
 --   LawsFit, ChangesFit, BasisFits, RelationsFit    the products of the conditions fit
-use Rattle.std.specs.Prelude.{◌≡◌, ℕ, List, [], map, zip, true}
+use Rattle.std.specs.Prelude.{◌≡◌, ◌<◌, ◌≤◌, ℕ, List, [], map, zip, true, ⊤}
 use Rattle.std.specs.List.{list_all}
 use Rattle.rinv_defs.specs.System.{System, Poly}
 use Rattle.rinv_defs.specs.Laws.{all_laws}
-use Rattle.rinv_defs.specs.Certificate.{Certificate, BasisItem, RelationItem}
+use Rattle.rinv_defs.specs.Certificate.{Certificate, BasisItem, RelationItem, Tied as DefinedTied, to_constant, to_generator}
 use Rattle.rinv_cert.specs.declared.certificate.Tied.{Tied}
 use Rattle.rinv_cert.specs.Seen.{system_by, basis_item_by, relation_item_by}
 use Rattle.rinv_acceptance.specs.Fits.{law_multiplies, change_multiplies, at_graph_multiplies, relation_multiplies}
@@ -29,6 +29,11 @@ basis_seen items = map (basis_item_by (λ f. f)) items
 
 abbrev pub relations_seen : List (List ℕ × Poly × List (List ℕ × Poly × Tied) × List Poly) → List RelationItem
 relations_seen items = map (relation_item_by (λ f. f)) items
+
+-- a tie is a constant, or the number of one of so many generators
+abbrev pub IsInside : ℕ → DefinedTied → Type 0
+IsInside n (to_constant v) = ⊤
+IsInside n (to_generator k) = (0 < k) × (k ≤ n)
 
 -- ---- products
 

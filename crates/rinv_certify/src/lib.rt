@@ -9,6 +9,7 @@ mod common;
 mod inputs;
 mod laws;
 mod making;
+mod products;
 mod raising;
 mod relations;
 mod stop;

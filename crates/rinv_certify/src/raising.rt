@@ -16,6 +16,7 @@ ghost use Rattle.rinv_acceptance.specs.Denominators.{once, product_from, product
 ghost use Rattle.rinv_acceptance.specs.Raised.{denominators};
 ghost use Rattle.rinv_certify.specs.Meets.{FactorsMeet, ProductMeets};
 
+use crate::products::product_of_two;
 use rinv_frac::{Frac, FracRing};
 use rinv_poly::{KPoly, PolyRing};
 use rinv_ring::{NoMemory, Ring, RingFault};
@@ -94,7 +95,7 @@ fn times_factors(
     let space = PolyRing::new(system.field, system.space.len());
     let mut product = f;
     'factors: for k in 0..factors.len() {
-        product = space.product(alloc, &product, &factors[k])?;
+        product = product_of_two(alloc, &space, &product, &factors[k])?;
     }
     Ok(product)
 }

@@ -1,6 +1,6 @@
 //! The key `relations`: the relations over the common denominators of their coefficients, with the cofactors of their values at Z = g.
 
-ghost use Rattle.std.specs.Prelude.{◌≡◌, ◌<◌, ◌^◌, [], length, get_or, true, nat_lt, zip, map, IfOk, IfErr, OnOk};
+ghost use Rattle.std.specs.Prelude.{◌≡◌, ◌<◌, ◌^◌, [], ◌∷◌, length, get_or, true, nat_lt, zip, map, IfOk, IfErr, OnOk};
 ghost use Rattle.rinv_algebra.specs.Ring.{IsSame};
 ghost use Rattle.rinv_algebra.specs.Residue.{residue_ops};
 ghost use Rattle.rinv_algebra.specs.Polynomial.{poly_ops, term_product};
@@ -10,11 +10,21 @@ ghost use Rattle.rinv_defs.specs.System.{space_count};
 ghost use Rattle.rinv_defs.specs.SystemForm.{IsSystem};
 ghost use Rattle.rinv_defs.specs.RelationConditions.{z_power, behind_z};
 ghost use Rattle.rinv_ring.specs.Fault.{DegreesMeet};
+ghost use Rattle.rinv_algebra.specs.Fits.{product_fits};
+ghost use Rattle.rinv_defs.specs.Extended.{Relation};
+ghost use Rattle.rinv_defs.specs.Certificate.{Certificate};
+ghost use Rattle.rinv_cert.specs.Seen.{tied_of, relation_item_by};
+ghost use Rattle.rinv_tails.specs.Stored.{IsStoredRelation};
+ghost use Rattle.rinv_coefficients.specs.Ties.{TiedRelation, Ties};
+ghost use Rattle.rinv_acceptance.specs.Fits.{tie_multiplies, relation_multiplies};
 ghost use Rattle.rinv_at_graph.specs.Grounds.{IsGround};
-ghost use Rattle.rinv_certification.specs.Made.{AreRelationItemsOf};
-ghost use Rattle.rinv_certify.specs.Meets.{RelationsMeet};
-ghost use Rattle.rinv_certify.specs.Parts.{RelationsFit, relations_seen};
+ghost use Rattle.rinv_gens.specs.Symbols.{tied_of as symbol_of};
+ghost use Rattle.rinv_certification.specs.Made.{AreRelationItemsOf, HasCommonPart, IsRelationItemOf};
+ghost use Rattle.rinv_certify.specs.Meets.{RelationMeets, RelationsMeet, TermMeets, TieMeets};
+ghost use Rattle.rinv_certify.specs.Parts.{IsInside, RelationsFit, relations_seen};
+ghost use Rattle.rinv_certify.specs.Wholes.{IsWholeOf, WholeFits};
 
+use crate::products::product_of_two;
 use crate::raising::{common_denominator, denominators_once, raised_numerator};
 use rinv_action::action_ring;
 use rinv_at_graph::{Ground, proof_at_graph};
@@ -22,7 +32,7 @@ use rinv_cert::{Items, Plain, RelationItem, TailItem, Tied};
 use rinv_fits::check_product;
 use rinv_frac::FracRing;
 use rinv_generators::kinds::Generators;
-use rinv_gens::{Relation, Symbol};
+use rinv_gens::{Relation as TiedValue, Symbol};
 use rinv_mono::Mono;
 use rinv_plain::{plain, plain_list};
 use rinv_poly::{KPoly, PolyRing};
@@ -32,7 +42,15 @@ use rinv_text::System;
 use std::alloc::Global;
 
 // Z^a times a polynomial in the space's variables, in all variables.
-fn term(alloc: Global, system: &System, a: &Mono, f: &KPoly) -> Result<KPoly, RingFault> {
+fn term(alloc: Global, system: &System, a: &Mono, f: &KPoly) -> Result<KPoly, RingFault>
+    requires system { IsSystem system.now.system }
+    requires exponents { length a.now ≡ space_count system.now.system }
+    requires polynomial { IsNormal (residue_ops system.now.system.p) (λ c. nat_lt c system.now.system.p) (space_count system.now.system) f.now }
+    ensures normal { IfOk result (IsNormal (residue_ops system.now.system.p) (λ c. nat_lt c system.now.system.p) (all_count system.now.system)) }
+    ensures value { IfOk result (λ r. IsSame (poly_ops (residue_ops system.now.system.p)) r (term_product (residue_ops system.now.system.p) (z_power system.now.system a.now) (behind_z system.now.system f.now))) }
+    ensures fits { OnOk result (product_fits (residue_ops system.now.system.p) (z_power system.now.system a.now ∷ []) (behind_z system.now.system f.now) ≡ true) }
+    ensures degree { IfErr result (DegreesMeet (TermMeets system.now.system a.now f.now)) }
+{
     let ring = action_ring(system);
     let (group, space) = (system.group.len(), system.space.len());
     let from = PolyRing::new(system.field, space);
@@ -47,7 +65,8 @@ fn term(alloc: Global, system: &System, a: &Mono, f: &KPoly) -> Result<KPoly, Ri
     };
     let terms = vec![in alloc; (mono, 1)]?;
     let power = ring.from_distinct(terms)?;
-    ring.product(alloc, &power, &behind)
+    let term = product_of_two(alloc, &ring, &power, &behind)?;
+    Ok(term)
 }
 
 // What a coefficient is tied to, and whether the products by which that is seen fit.
@@ -82,8 +101,15 @@ fn whole_of(
     alloc: Global,
     gens: &Generators,
     relation: &FracRelation,
-    symbols: &Relation,
-) -> Result<Whole, RingFault> {
+    symbols: &TiedValue,
+) -> Result<Whole, RingFault>
+    requires few { length gens.now.fractions < 2 ^ 32 }
+    requires relation { IsStoredRelation gens.now.told.system.p (space_count gens.now.told.system) relation.now }
+    requires ties { Ties gens.now.told.system.p gens.now.fractions symbols.now relation.now }
+    ensures raised { IfOk result (λ w. IsWholeOf gens.now relation.now symbols.now w) }
+    ensures fits { (c : Certificate) → HasCommonPart gens.now c → IfOk result (WholeFits c relation.now) }
+    ensures degree { IfErr result (DegreesMeet (RelationMeets gens.now relation.now symbols.now)) }
+{
     let system = &gens.system;
     let ring = action_ring(system);
     let factors = denominators_once(alloc, system, relation)?;
@@ -114,7 +140,15 @@ fn relation_item(
     gens: &Generators,
     ground: &Ground,
     k: usize,
-) -> Result<RelationItem<Plain>, RingFault> {
+) -> Result<RelationItem<Plain>, RingFault>
+    requires few { length gens.now.fractions < 2 ^ 32 }
+    requires section { gens.now.told.system.section ≡ [] }
+    requires ground { IsGround gens.now.told.system gens.now.group ground.now }
+    requires inside { k < length gens.now.relations }
+    ensures item { (r : Relation) (q : TiedRelation) → r ≡ get_or gens.now.monic k r → q ≡ get_or gens.now.relations k q → IfOk result (λ x. IsRelationItemOf gens.now.told.system gens.now.group r q (relation_item_by (λ f. f) x)) }
+    ensures fits { (c : Certificate) → HasCommonPart gens.now c → IfOk result (λ x. relation_multiplies c (relation_item_by (λ f. f) x) ≡ true) }
+    ensures degree { (r : Relation) (q : TiedRelation) → r ≡ get_or gens.now.monic k r → q ≡ get_or gens.now.relations k q → IfErr result (DegreesMeet (RelationMeets gens.now r q)) }
+{
     let relation = &gens.monic.relations[k];
     let Whole { d, tail, whole } = whole_of(alloc, gens, relation, &gens.relations[k])?;
     let cofactors = proof_at_graph(alloc, ground, &whole)?;
