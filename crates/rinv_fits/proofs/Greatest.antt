@@ -1,7 +1,8 @@
 -- The greatest degree of some terms, one term more; and products that fit by the greatest degrees of both factors.
-use Rattle.std.proofs.Common.{◌≡◌, ℕ, zero, suc, ◌+◌, ◌<◌, ◌≤◌, max, true, List, [], ◌∷◌, ◌++◌, length, get_or, take, All, subst, sym, ap, arith, refl, ◌∙◌, inl, inr}
-use Rattle.std.specs.Prelude.{Contains, nat_lt}
+use Rattle.std.proofs.Common.{◌≡◌, ℕ, zero, suc, ◌+◌, ◌<◌, ◌≤◌, max, Bool, true, false, List, [], ◌∷◌, ◌++◌, length, get_or, take, All, subst, sym, ap, arith, refl, ◌∙◌, inl, inr}
+use Rattle.std.specs.Prelude.{Contains, nat_lt, ◌==◌}
 use Rattle.std.proofs.lemmas.Bool.{cases_order}
+use Rattle.std.proofs.lemmas.Bool.Decides.{nat_tests}
 use Rattle.std.proofs.lemmas.List.{take_all, take_more}
 use Rattle.std.proofs.lemmas.List.Elements.{All-push}
 use Rattle.rinv_algebra.specs.Monomial.{total_degree, max_degree}
@@ -42,8 +43,8 @@ greatest-more f k n d t inside at degree low g = record {
     positive : d < n → 0 < k
     positive above = elim (cases_order k 0) [
       | inl same ↦ let z = g.none same in absurd (omega (arith, z, above))
-      | inr (inl below) ↦ absurd (omega (arith, below))
-      | inr (inr positive) ↦ positive
+      | inr (inl under) ↦ absurd (omega (arith, under))
+      | inr (inr some) ↦ some
     ]
 
 module _ (p v : ℕ) (f g : Poly) where
@@ -71,3 +72,15 @@ greatest-none f = record { all = λ i d h. absurd (omega (arith, h)); some = λ 
 -- after all
 pub greatest-all : (f : Poly) (k n : ℕ) → length f ≤ k → IsGreatest f k n → All (λ t. total_degree t.0 ≤ n) f
 greatest-all f k n past g = subst (λ h. All (λ t. total_degree t.0 ≤ n) h) (take_all k f past) g.all
+
+-- whether a list is empty, as it is tested
+pub empty-length : (xs f : Poly) (b : Bool) → xs ≡ f → b ≡ (length xs == 0) → b ≡ true → length f ≡ 0
+empty-length xs f b same test is =
+    let e : (length xs == 0) ≡ true = sym test ∙ is in
+    let n : length xs ≡ 0 = grind (arith, nat_tests, e) in
+    sym (ap (λ (g : Poly). length g) same) ∙ n
+
+pub some-length : (xs : Poly) (b : Bool) → b ≡ (length xs == 0) → b ≡ false → 0 < length xs
+some-length xs b test off =
+    let e : (length xs == 0) ≡ false = sym test ∙ off in
+    grind (arith, nat_tests, e)
