@@ -27,8 +27,8 @@ halted told before after h text why cause low fresh halts kept is cause_is print
 pub returns-in-Ok-clause-within : goal.returns-in-Ok-clause-within
 returns-in-Ok-clause-within c = spent-within c.args.system.now c.in-Ok.group.basis.journal 0 c.budget_of-budget.result c.group_basis.new.budget c.requires.limits c.budget_of-budget.ensures c.in-Ok.ensures.spent c.in-Ok.ensures.still_within
 
-pub returns-in-Err-Incomplete-clause-stop : goal.returns-in-Err-Incomplete-clause-stop
-returns-in-Err-Incomplete-clause-stop c =
+pub returns-in_ok-text-in-Err-Incomplete-clause-stop : goal.returns-in_ok-text-in-Err-Incomplete-clause-stop
+returns-in_ok-text-in-Err-Incomplete-clause-stop c =
     halted c.args.system.now c.budget_of-budget.result c.group_basis.new.budget c.in-Err-Incomplete.halt c.in_ok-text-in-Err-Incomplete.text.items c.halt.inside.why c.cause_of-cause.result
     c.requires.limits c.budget_of-budget.ensures (rw c.in-Err-Incomplete.field-0-is at c.in-Err-Incomplete.ensures.stop) c.in-Err-Incomplete.ensures.still_within
     (ap (λ (h : Halted ℕ). h.why) c.halt.view_is) c.cause_of-cause.ensures c.in_ok-text-in-Err-Incomplete.ensures
