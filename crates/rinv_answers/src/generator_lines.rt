@@ -24,13 +24,28 @@ pub fn generator_text(
     requires fractions { All (IsStored system.now.system.p (space_count system.now.system)) fractions.now }
     ensures { IfOk result (λ v. v.items ≡ gen_text system.now.system fractions.now) }
 {
-    let field = FracRing::new(PolyRing::new(system.field, system.space.len()));
     let mut out = Vec::new(alloc);
-    'lines: for k in 0..fractions.len() {
-        write_line(alloc, system, &field, k + 1, &fractions[k], &mut out)?;
-    }
+    write_generators(alloc, system, fractions, &mut out)?;
     out.extend_from_slice(complete_line(system))?;
     Ok(out)
+}
+
+/// Appends the lines of the generators, with numbers from 1.
+pub fn write_generators(
+    alloc: Global,
+    system: &System,
+    fractions: &[Frac],
+    out: &mut Vec<u8>,
+) -> Result<(), NoMemory>
+    requires system { IsSystem system.now.system }
+    requires fractions { All (IsStored system.now.system.p (space_count system.now.system)) fractions.now }
+    ensures { OnOk result (out.new.items ≡ out.old.items ++ generator_lines system.now.system fractions.now) }
+{
+    let field = FracRing::new(PolyRing::new(system.field, system.space.len()));
+    'lines: for k in 0..fractions.len() {
+        write_line(alloc, system, &field, k + 1, &fractions[k], out)?;
+    }
+    Ok(())
 }
 
 // Appends the line of the fraction with a number.
@@ -54,8 +69,8 @@ fn write_line(
     Ok(())
 }
 
-// The last line.
-fn complete_line(system: &System) -> &'static [u8]
+/// The last line.
+pub fn complete_line(system: &System) -> &'static [u8]
     ensures { result.now ≡ complete_line system.now.system }
 {
     if system.section.is_empty() {

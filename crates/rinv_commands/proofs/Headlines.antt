@@ -1,5 +1,5 @@
 -- Where an answer ends with the line `complete`, the headline holds of it.
-use Rattle.std.proofs.Common.{◌≡◌, ℕ, List, [], ◌++◌, refl, codes}
+use Rattle.std.proofs.Common.{◌≡◌, ℕ, List, [], ◌++◌, Bool, true, false, inl, inr, refl, subst, codes}
 use Rattle.rinv_defs.specs.System.{System}
 use Rattle.rinv_defs.specs.Invariant.{Fraction}
 use Rattle.rinv_defs.specs.Generators.{IsSound}
@@ -17,12 +17,19 @@ use Rattle.rinv_answers.specs.Told.{AnswersTold}
 use Rattle.rinv_answers.specs.Commands.Check.{IsCheckAnswer}
 use Rattle.rinv_answers.specs.Commands.Laws.{IsTested, IsCut, IsLawsAnswer}
 use Rattle.rinv_answers.specs.Commands.Generators.{AreComplete, IsFound, IsPhaseCut, IsGenAnswer}
+use Rattle.rinv_script.specs.declared.form.Form.TheVariants.{Rewrites, Whole}
+use Rattle.rinv_script.specs.Queries.{Query, Script, need_generators}
+use Rattle.rinv_script.specs.ScriptTexts.{IsScriptText}
+use Rattle.rinv_queries.specs.Lines.{last_line_of, query_lines}
+use Rattle.rinv_queries.specs.Cuts.{IsQueryCut}
+use Rattle.rinv_queries.specs.Commands.Rewrite.{IsRewriteAnswer, IsRewritten, ShowsExpressions}
+use Rattle.rinv_queries.specs.Commands.Run.{AnswersQueries, AreCompleteIf, IsCutIf, IsDenialIf, IsRunAnswer, IsScripted}
 use Rattle.rinv_commands.specs.declared.command.Command.{Command}
 use Rattle.rinv_commands.specs.declared.command.Command.TheVariants as command
 use Rattle.rinv_commands.specs.Answers.{IsAnswer}
 use Rattle.rinv_commands.specs.Headline.{EndsComplete, IsHeadline}
 use Rattle.rinv_commands.proofs.LastLines.{ends-otherwise}
-use Rattle.rinv_commands.proofs.ToldNames.{system-named}
+use Rattle.rinv_commands.proofs.ToldNames.{script-named, system-named}
 use Rattle.rinv_commands.proofs.OtherLines.{not-hold, not-refused, not-incomplete, not-no, not-refused_part, not-denial, not-gen_denial, no-section}
 
 -- complete generators are sound where there is no section
@@ -89,7 +96,72 @@ module _ (text : List ℕ) (h : EndsComplete text) where
   of-gen bytes ending (AnswersTold.answered told denoted t) = found bytes ending told denoted t
   of-gen bytes ending (AnswersTold.refused line is printed) = absurd (not-refused text line h printed)
 
+  -- ---- rewrite and run
+
+  query-cut : (told : Told) (queries : List Query) → IsQueryCut told queries text → ⊥
+  query-cut told queries c = not-incomplete text (phase.Query c.number) (cause.Degree c.x c.y) h c.printed
+
+  expressed : (bytes : List ℕ) (ending : Ending) (script : Script) → IsScriptText Rewrites bytes script → ShowsExpressions script text ending → IsHeadline command.Rewrite bytes text
+  expressed bytes ending script denoted t =
+      let s = script.told.system in
+      record {
+        system = s;
+        fractions = t.fractions;
+        sound = complete-sound s t.fractions (no-section text (generator_lines s t.fractions ++ query_lines s t.fractions true 1 script.queries t.outcomes) s h t.printed) t.complete;
+        shown = record { script = script; denoted = denoted; system = refl; outcomes = t.outcomes; answered = t.answered; printed = t.printed };
+      }
+
+  rewritten : (bytes : List ℕ) (ending : Ending) (script : Script) → IsScriptText Rewrites bytes script → IsRewritten script text ending → IsHeadline command.Rewrite bytes text
+  rewritten bytes Done script denoted t = expressed bytes Done script denoted t
+  rewritten bytes Denied script denoted (inl d) = absurd (not-gen_denial script.told text (script-named Rewrites bytes script denoted) h d)
+  rewritten bytes Denied script denoted (inr t) = expressed bytes Denied script denoted t
+  rewritten bytes Refused script denoted t = absurd t
+  rewritten bytes Incomplete script denoted (inl c) = absurd (phase-cut script.told c)
+  rewritten bytes Incomplete script denoted (inr c) = absurd (query-cut script.told script.queries c)
+
+  of-rewrite : (bytes : List ℕ) (ending : Ending) → IsRewriteAnswer bytes text ending → IsHeadline command.Rewrite bytes text
+  of-rewrite bytes ending (AnswersTold.answered script denoted t) = rewritten bytes ending script denoted t
+  of-rewrite bytes ending (AnswersTold.refused line is printed) = absurd (not-refused text line h printed)
+
+  -- `complete` comes where generators are needed, and without a section, alone
+  last-of-run : (needed : Bool) (front : List ℕ) (s : System) → text ≡ front ++ last_line_of needed s → (needed ≡ true) × (s.section ≡ [])
+  last-of-run true front s is = (refl, no-section text front s h is)
+  last-of-run false front s is = absurd (ends-otherwise text front (codes "done\n") h is refl)
+
+  answers : (bytes : List ℕ) (ending : Ending) (script : Script) → IsScriptText Whole bytes script → AnswersQueries script text ending → IsHeadline command.Run bytes text
+  answers bytes ending script denoted t =
+      let s = script.told.system in
+      let last = last-of-run (need_generators script.queries) (query_lines s t.fractions false 1 script.queries t.outcomes) s t.printed in
+      record {
+        system = s;
+        fractions = t.fractions;
+        sound = complete-sound s t.fractions last.1 (subst (λ (b : Bool). AreCompleteIf b s t.fractions) last.0 t.complete);
+        shown = record { script = script; denoted = denoted; system = refl; outcomes = t.outcomes; answered = t.answered; printed = t.printed };
+      }
+
+  not-denial_if : (needed : Bool) (script : Script) (bytes : List ℕ) → IsScriptText Whole bytes script → IsDenialIf needed script.told text → ⊥
+  not-denial_if true script bytes denoted d = not-gen_denial script.told text (script-named Whole bytes script denoted) h d
+  not-denial_if false script bytes denoted d = not-denial script.told text (script-named Whole bytes script denoted) h d
+
+  cut-if : (needed : Bool) (told : Told) → IsCutIf needed told text → ⊥
+  cut-if true told c = phase-cut told c
+  cut-if false told c = cut told c
+
+  scripted : (bytes : List ℕ) (ending : Ending) (script : Script) → IsScriptText Whole bytes script → IsScripted script text ending → IsHeadline command.Run bytes text
+  scripted bytes Done script denoted t = answers bytes Done script denoted t
+  scripted bytes Denied script denoted (inl d) = absurd (not-denial_if (need_generators script.queries) script bytes denoted d)
+  scripted bytes Denied script denoted (inr t) = answers bytes Denied script denoted t
+  scripted bytes Refused script denoted t = absurd t
+  scripted bytes Incomplete script denoted (inl c) = absurd (cut-if (need_generators script.queries) script.told c)
+  scripted bytes Incomplete script denoted (inr c) = absurd (query-cut script.told script.queries c)
+
+  of-run : (bytes : List ℕ) (ending : Ending) → IsRunAnswer bytes text ending → IsHeadline command.Run bytes text
+  of-run bytes ending (AnswersTold.answered script denoted t) = scripted bytes ending script denoted t
+  of-run bytes ending (AnswersTold.refused line is printed) = absurd (not-refused text line h printed)
+
 pub headline : (asked : Command) (bytes text : List ℕ) (ending : Ending) → IsAnswer asked bytes text ending → EndsComplete text → IsHeadline asked bytes text
 headline command.Check bytes text ending a h = of-check text h bytes ending a
 headline command.Laws bytes text ending a h = absurd (of-laws text h bytes ending a)
 headline command.Gen bytes text ending a h = of-gen text h bytes ending a
+headline command.Rewrite bytes text ending a h = of-rewrite text h bytes ending a
+headline command.Run bytes text ending a h = of-run text h bytes ending a

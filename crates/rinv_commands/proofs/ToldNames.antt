@@ -1,5 +1,5 @@
 -- The names of a system that is told stand within a line.
-use Rattle.std.proofs.Common.{◌≡◌, ℕ, List, [], ◌∷◌, refl, sym, subst, true, not, ◌&&◌, ◌||◌, ◌==◌, bytes_eq, length, nat_le, arith}
+use Rattle.std.proofs.Common.{◌≡◌, ℕ, List, [], ◌∷◌, ◌++◌, refl, sym, subst, true, not, ◌&&◌, ◌||◌, ◌==◌, bytes_eq, length, nat_le, arith}
 use Rattle.std.specs.List.{list_all, list_any}
 use Rattle.std.proofs.lemmas.Bool.Decides.{nat_tests}
 use Rattle.rinv_algebra.proofs.Same.{both, and_true}
@@ -10,6 +10,10 @@ use Rattle.rinv_system.specs.Drafts.{Draft, blank, group_names, space_names}
 use Rattle.rinv_system.specs.LineTexts.{AreTaken}
 use Rattle.rinv_system.specs.Texts.{IsLineTaken, IsSystemText, told_by}
 use Rattle.rinv_system.proofs.Good.{IsGood, AreTaken-good}
+use Rattle.rinv_script.specs.declared.form.Form.{Form}
+use Rattle.rinv_script.specs.Queries.{Script}
+use Rattle.rinv_script.specs.Scripts.{ScriptDraft, IsScriptRestTaken, blank_script}
+use Rattle.rinv_script.specs.ScriptTexts.{IsScriptLineTaken, IsScriptText}
 use Rattle.rinv_commands.proofs.Feedless.{is_inner, IsInner, AreInner}
 
 letter-inner : (b : ℕ) → is_letter b ≡ true → is_inner b ≡ true
@@ -54,3 +58,19 @@ told-named told d lines taken is = let h = draft-named d (AreTaken-good taken) i
 
 pub system-named : (bytes : List ℕ) (told : Told) → IsSystemText bytes told → IsNamed told.system
 system-named bytes told h = told-named told h.draft _ h.is_text.taken h.is
+
+-- ---- scripts
+
+-- the lines of a script that are those of its system
+system-lines : {form : Form} {ls : List (List ℕ)} {d : ScriptDraft} → AreTaken IsScriptLineTaken (blank_script form) ls d → (lines : List (List ℕ)) × AreTaken IsLineTaken blank lines d.system
+system-lines AreTaken.none = ([], AreTaken.none)
+system-lines (AreTaken.one_more line before (IsScriptLineTaken.empty e)) = system-lines before
+system-lines (AreTaken.one_more line before (IsScriptLineTaken.of_system some first taken)) = let so_far = system-lines before in (so_far.0 ++ line ∷ [], AreTaken.one_more line so_far.1 taken)
+system-lines (AreTaken.one_more line before (IsScriptLineTaken.of_script some none head whole (IsScriptRestTaken.a_definition f formal is new value))) = system-lines before
+system-lines (AreTaken.one_more line before (IsScriptLineTaken.of_script some none head whole (IsScriptRestTaken.a_word asks alone few))) = system-lines before
+system-lines (AreTaken.one_more line before (IsScriptLineTaken.of_script some none head whole (IsScriptRestTaken.a_fraction f formal asks few is))) = system-lines before
+
+pub script-named : (form : Form) (bytes : List ℕ) (script : Script) → IsScriptText form bytes script → IsNamed script.told.system
+script-named form bytes script h =
+    let lines = system-lines h.is_text.taken in
+    subst (λ (s : Script). IsNamed s.told.system) (sym h.is) (told-named (told_by h.draft.system) h.draft.system lines.0 lines.1 refl)

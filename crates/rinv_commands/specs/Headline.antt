@@ -9,9 +9,16 @@ use Rattle.rinv_json.specs.Denoted.{DenotesCertificate}
 use Rattle.rinv_text.specs.Told.{Told}
 use Rattle.rinv_system.specs.Texts.{IsSystemText}
 use Rattle.rinv_system.specs.Written.{text_of}
+use Rattle.rinv_script.specs.declared.form.Form.{Form}
+use Rattle.rinv_script.specs.declared.form.Form.TheVariants.{Rewrites, Whole}
+use Rattle.rinv_script.specs.Queries.{Query, Script}
+use Rattle.rinv_script.specs.ScriptTexts.{IsScriptText}
 use Rattle.rinv_answers.specs.GeneratorLines.{gen_text}
+use Rattle.rinv_queries.specs.declared.outcome.Outcome.{Outcome}
+use Rattle.rinv_queries.specs.Outcomes.{AreAnswered}
+use Rattle.rinv_queries.specs.Lines.{rewrite_text, run_text}
 use Rattle.rinv_commands.specs.declared.command.Command.{Command}
-use Rattle.rinv_commands.specs.declared.command.Command.TheVariants.{Check, Laws, Gen}
+use Rattle.rinv_commands.specs.declared.command.Command.TheVariants.{Check, Laws, Gen, Rewrite, Run}
 
 -- the text is made of lines, of which the last is `complete`
 pub record EndsComplete (text : List ℕ) : Type 0 where
@@ -33,11 +40,24 @@ pub record ShowsFound (bytes text : List ℕ) (s : System) (cs : List Fraction) 
   pub system : s ≡ told.system
   pub printed : text ≡ gen_text s cs
 
+-- The bytes tell a script, which asks queries of the system, and each is answered with these fractions for the generators: one for an
+-- expression by an expression that has the value of its fraction, where this is invariant, and only else by the rest of its change. The text
+-- shows this.
+pub record ShowsAnswered (form : Form) (bytes : List ℕ) (shown : List Query → List Outcome → List ℕ) (text : List ℕ) (s : System) (cs : List Fraction) : Type 0 where
+  pub script : Script
+  pub denoted : IsScriptText form bytes script
+  pub system : s ≡ script.told.system
+  pub outcomes : List Outcome
+  pub answered : AreAnswered s cs script.queries outcomes
+  pub printed : text ≡ shown script.queries outcomes
+
 -- what the input of a command denotes, and what the text shows of it; `laws` never ends so
 abbrev pub Shows : Command → List ℕ → List ℕ → System → List Fraction → Type 0
 Shows Check bytes text s cs = ShowsCertified bytes text s cs
 Shows Laws bytes text s cs = ⊥
 Shows Gen bytes text s cs = ShowsFound bytes text s cs
+Shows Rewrite bytes text s cs = ShowsAnswered Rewrites bytes (rewrite_text s cs) text s cs
+Shows Run bytes text s cs = ShowsAnswered Whole bytes (run_text s cs) text s cs
 
 -- The input denotes a system, and the text shows fractions. The laws hold: the polynomials of the system are a group that acts on affine
 -- space. Each of the fractions is invariant under it, and each invariant fraction, of any degree, is a rational expression in them.

@@ -6,6 +6,7 @@ ghost use Rattle.rinv_commands.specs.Answers.{IsAnswer};
 use crate::command::Command;
 use rinv_answers::Ending;
 use rinv_answers::commands::{check, generators, laws};
+use rinv_queries::commands::{rewrite, run};
 use std::alloc::{AllocError as NoMemory, Global};
 
 /// The text that the command answers to these bytes, and how it ends.
@@ -17,5 +18,7 @@ pub fn answer(alloc: Global, command: Command, bytes: &[u8]) -> Result<(Vec<u8>,
         Command::Check => check::answer(alloc, bytes),
         Command::Laws => laws::answer(alloc, bytes),
         Command::Gen => generators::answer(alloc, bytes),
+        Command::Rewrite => rewrite::answer(alloc, bytes),
+        Command::Run => run::answer(alloc, bytes),
     }
 }

@@ -48,6 +48,13 @@ pub record IsPhaseCut (told : Told) (text : List ℕ) : Type 0 where
   pub within : IsWithin told journal
   pub printed : text ≡ incomplete_line (phase_of phase) (cause_of told why)
 
+-- why there are no generators
+abbrev pub IsUnfound : Told → List ℕ → Ending → Type 0
+IsUnfound told text Done = ⊥
+IsUnfound told text Denied = IsGenDenial told text
+IsUnfound told text Refused = ⊥
+IsUnfound told text Incomplete = IsPhaseCut told text
+
 -- the answer to a system
 abbrev pub IsFound : Told → List ℕ → Ending → Type 0
 IsFound told text Done = ShowsGenerators told text

@@ -1,16 +1,19 @@
 //! The answer to the bytes of a system whose generators are asked for: a text and how it ends.
 
-ghost use Rattle.std.specs.Prelude.{◌≡◌, ◌<◌, ◌-◌, ◌^◌, length, IfOk};
+ghost use Rattle.std.specs.Prelude.{◌≡◌, ◌<◌, ◌-◌, ◌^◌, length, IfOk, IfErr};
 ghost use Rattle.rinv_defs.specs.SystemForm.{IsSystem};
+ghost use Rattle.rinv_gens.specs.Found.{ArePieces};
 ghost use Rattle.rinv_answers.specs.Budgets.{IsLimited};
 ghost use Rattle.rinv_answers.specs.Incomplete.{phase_of};
-ghost use Rattle.rinv_answers.specs.Commands.Generators.{IsFound, IsGenAnswer};
+ghost use Rattle.rinv_answers.specs.Stopped.{StopsSo};
+ghost use Rattle.rinv_answers.specs.Commands.Generators.{IsFound, IsGenAnswer, IsUnfound};
 
 use crate::ending::Ending;
 use crate::generator_lines::{generator_text, missed_line};
 use crate::incomplete::{Phase, cause_of, incomplete_line};
 use crate::law_lines::{fault_line, refused_line};
-use rinv_gens::{GenStop, pieces};
+use crate::stopped::Stopped;
+use rinv_gens::{Findings, GenStop, pieces};
 use rinv_system::{SystemStop, read_system};
 use rinv_text::System;
 use std::alloc::{AllocError as NoMemory, Global};
@@ -38,25 +41,39 @@ fn found(alloc: Global, system: &System) -> Result<(Vec<u8>, Ending), NoMemory>
     requires limits { IsLimited system.now }
     ensures { IfOk result (λ a. IsFound system.now a.0.items a.1) }
 {
-    match pieces(alloc, system) {
+    match generated(alloc, system) {
         Ok(found) => {
             let text = generator_text(alloc, system, &found.fractions)?;
             Ok((text, Ending::Done))
         }
+        Err(Stopped::Answer(text, ending)) => Ok((text, ending)),
+        Err(Stopped::NoMemory) => Err(NoMemory),
+    }
+}
+
+/// What is found on the way to the generators of a system. Where there are none, the stop has what is printed.
+pub fn generated(alloc: Global, system: &System) -> Result<Findings, Stopped>
+    requires system { IsSystem system.now.system }
+    requires limits { IsLimited system.now }
+    ensures pieces { IfOk result (ArePieces system.now) }
+    ensures stop { IfErr result (StopsSo (IsUnfound system.now)) }
+{
+    match pieces(alloc, system) {
+        Ok(found) => Ok(found),
         Err(GenStop::Law(fault)) => {
             let text = fault_line(alloc, system, &fault)?;
-            Ok((text, Ending::Denied))
+            Err(Stopped::Answer(text, Ending::Denied))
         }
         Err(GenStop::Missed(element)) => {
             let text = missed_line(alloc, system, &element)?;
-            Ok((text, Ending::Denied))
+            Err(Stopped::Answer(text, Ending::Denied))
         }
         Err(GenStop::Incomplete { phase, why, .. }) => {
             let cause = cause_of(system, &why);
             let text = incomplete_line(alloc, phase_of(phase), cause)?;
-            Ok((text, Ending::Incomplete))
+            Err(Stopped::Answer(text, Ending::Incomplete))
         }
-        Err(GenStop::NoMemory) => Err(NoMemory),
+        Err(GenStop::NoMemory) => Err(Stopped::NoMemory),
     }
 }
 

@@ -1,0 +1,7 @@
+pub mod Limits
+pub mod Pieces
+pub mod Pages
+pub mod Endings
+pub mod FromPieces
+pub mod KnownFacts
+pub mod Asked
