@@ -2,8 +2,8 @@ use Rattle.std.proofs.Common.{◌∙◌, sym, ap}
 use Rattle.std.specs.Prelude.{decimal, codes}
 use Rattle.rinv_defs.specs.Text.{refused_text}
 use Rattle.rinv_cert.specs.Faults.{part_word}
-use Rattle.rinv_answers.proofs.Lines.{append_assoc-5}
-use Rattle.rinv_answers.proofs.commands.check.fault_line.Goals as goal
+use Rattle.rinv_lines.proofs.Lines.{append_assoc-5}
+use Rattle.rinv_verdict.proofs.checking.fault_line.Goals as goal
 
 pub returns : goal.returns
 unfolding refused_text

@@ -13,7 +13,7 @@ pub enum Stopped {
 
 impl From<NoMemory> for Stopped {
     ghost use Rattle.std.specs.Prelude.{◌≡◌};
-    ghost use Rattle.rinv_answers.specs.declared.stopped.Stopped.TheVariants.{NoMemory};
+    ghost use Rattle.rinv_lines.specs.declared.stopped.Stopped.TheVariants.{NoMemory};
 
     ghost from_gives = { λ _ e. e ≡ NoMemory };
 

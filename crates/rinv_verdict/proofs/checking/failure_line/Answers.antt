@@ -1,8 +1,8 @@
 use Rattle.std.proofs.Common.{◌∙◌, sym, ap}
 use Rattle.std.specs.Prelude.{decimal, codes}
 use Rattle.rinv_defs.specs.Text.{no_text}
-use Rattle.rinv_answers.proofs.Lines.{append_assoc-5}
-use Rattle.rinv_answers.proofs.commands.check.failure_line.Goals as goal
+use Rattle.rinv_lines.proofs.Lines.{append_assoc-5}
+use Rattle.rinv_verdict.proofs.checking.failure_line.Goals as goal
 
 pub returns : goal.returns
 unfolding no_text

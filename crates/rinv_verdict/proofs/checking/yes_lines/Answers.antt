@@ -2,7 +2,7 @@ use Rattle.std.proofs.Common.{◌≡◌, ◌∙◌, ◌++◌, [], List, ℕ, map
 use Rattle.std.specs.Prelude.{codes}
 use Rattle.std.specs.List.{list_all}
 use Rattle.std.proofs.lemmas.Option.{none-some}
-use Rattle.rinv_answers.proofs.Accepted.{space_names-of_format}
+use Rattle.rinv_verdict.proofs.Accepted.{space_names-of_format}
 use Rattle.rinv_defs.specs.System.{System}
 use Rattle.rinv_defs.specs.Format.{format_failure}
 use Rattle.rinv_defs.specs.Invariant.{Fraction}
@@ -14,7 +14,7 @@ use Rattle.rinv_form.specs.Forms.{is_stored_fraction}
 use Rattle.rinv_form.specs.Trimmed.{trimmed}
 use Rattle.rinv_form.proofs.FormParts.{form-fractions}
 use Rattle.rinv_form.proofs.TrimmedForms.{keys-system, keys-fractions}
-use Rattle.rinv_answers.proofs.commands.check.yes_lines.Goals as goal
+use Rattle.rinv_verdict.proofs.checking.yes_lines.Goals as goal
 
 -- the whole answer, piece by piece
 yes-of : (c : Certificate) (p : ℕ) (names : List (List ℕ)) (fs : List Fraction) (line empty out out' out'' : List ℕ) → line ≡ kind_text c.kind → p ≡ c.system.p → names ≡ c.system.space → fs ≡ c.fractions

@@ -5,13 +5,13 @@ ghost use Rattle.rinv_defs.specs.Format.{format_failure};
 ghost use Rattle.rinv_defs.specs.Text.{yes_text, kind_text, no_text, refused_text};
 ghost use Rattle.rinv_cert.specs.Faults.{part_word};
 ghost use Rattle.rinv_cert.specs.Seen.{kind_of, plain};
-ghost use Rattle.rinv_answers.specs.Commands.Check.{IsCheckAnswer};
+ghost use Rattle.rinv_verdict.specs.Check.{IsCheckAnswer};
 
-use crate::ending::Ending;
 use crate::fraction::write_lines;
 use rinv_cert::{CertFault, CertStop, Certificate, Kind, from_json};
 use rinv_check::{Verdict, check};
 use rinv_form::{FormatStop, names_of, sizes_in, stored};
+use rinv_lines::Ending;
 use std::alloc::{AllocError as NoMemory, Global};
 
 /// What is printed for the bytes of a certificate, and how that ends.
