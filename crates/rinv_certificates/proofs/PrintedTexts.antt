@@ -1,0 +1,43 @@
+-- What is printed of a certificate.
+--   denoted-fed          a text and a line feed denote what the text does
+--   certified            the certificate of generators is printed
+use Rattle.std.proofs.Common.{◌≡◌, ℕ, ◌≤◌, List, [], ◌∷◌, ◌++◌, length, sym, ◌∙◌, ap, subst, refl}
+use Rattle.std.specs.Prelude.{codes}
+use Rattle.std.proofs.lemmas.Str.{IsUtf8-append, IsUtf8-from_ascii}
+use Rattle.rinv_defs.specs.Certificate.{Certificate}
+use Rattle.rinv_defs.specs.Accepted.{IsAccepted}
+use Rattle.rinv_json.specs.Denoted.{DenotesCertificate}
+use Rattle.rinv_json.specs.Ranges.{IsWritable}
+use Rattle.rinv_json.specs.Written.{json_text}
+use Rattle.rinv_json.proofs.SmallValues.{certificate_line_feed}
+use Rattle.rinv_text.specs.Told.{Told}
+use Rattle.rinv_generators.specs.Generated.{Generated, IsGenerators}
+use Rattle.rinv_certification.specs.Made.{HasCommonPart, IsCertificateOf}
+use Rattle.rinv_certificates.specs.Commands.Certify.{IsCertificateFor, IsCertified}
+use Rattle.rinv_certificates.specs.Texts.{certificate_text, max_text}
+
+-- a text and a line feed denote what the text does
+pub denoted-fed : (c : Certificate) → IsWritable c → DenotesCertificate (json_text c) c → DenotesCertificate (certificate_text c) c
+denoted-fed c small d = record {
+  json = d.json;
+  text = record { text = IsUtf8-append (json_text c) (10 ∷ []) d.text.text (IsUtf8-from_ascii (10 ∷ []) ?); value = certificate_line_feed c small ∙ d.text.value };
+  is = d.is;
+}
+
+-- the keys of every certificate
+common-of : (g : Generated) (c : Certificate) → IsCertificateOf g c → HasCommonPart g c
+common-of g c (IsCertificateOf.is_full none kind common basis) = common
+common-of g c (IsCertificateOf.is_sound some kind common nothing) = common
+
+pub is-for : (g : Generated) (c : Certificate) → IsGenerators g → IsCertificateOf g c → IsCertificateFor g.told c
+is-for g c gens made = record { generators = g; are_generators = gens; of_system = refl; made = made }
+
+-- the certificate of generators is printed
+pub certified : (g : Generated) (c : Certificate) (text : List ℕ) → IsGenerators g → IsCertificateOf g c → IsAccepted c → IsWritable c → text ≡ certificate_text c → DenotesCertificate text c → length text ≤ max_text → IsCertified g.told text
+certified g c text gens made accepted small printed denoted fits = record {
+  certificate = c;
+  for_it = is-for g c gens made;
+  system = (common-of g c made).system;
+  accepted = accepted;
+  printed = record { fits = subst (λ (t : List ℕ). length t ≤ max_text) printed fits; denoted = denoted; printed = printed };
+}

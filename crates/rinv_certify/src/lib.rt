@@ -1,0 +1,18 @@
+//! The certificate of generators, which is accepted.
+//!
+//! - `certify`: of kind `full`, or of kind `sound` where the system has a section
+#![tactic(auto)]
+
+mod basis;
+mod changes;
+mod common;
+mod inputs;
+mod laws;
+mod making;
+mod products;
+mod raising;
+mod relations;
+mod stop;
+
+pub use making::certify;
+pub use stop::CertifyStop;

@@ -1,0 +1,5 @@
+pub mod MultipleDegrees
+pub mod DividedPairs
+pub mod PaddedLists
+pub mod JournalPlaces
+pub mod EntryItems
