@@ -1,10 +1,10 @@
 -- Entries as a certificate has them, one after the other.
 --   settle-quotients     quotients that were divided again, of a system
 --   settle-quotients-meet, settle-sums-meet    the degrees that a pair meets
---   coprime-item, chain-item, quotient-item    an entry, with products that fit
+--   coprime-item, chain-item, reduced-item     an entry, with products that fit
 --   AreItemsUpTo         the first entries
 --   items-begin, items-more, items-end    none, one more, and all
-use Rattle.std.proofs.Common.{◌≡◌, ◌⊎◌, ℕ, ◌+◌, ◌-◌, ◌<◌, ◌≤◌, Bool, true, ◌&&◌, List, [], ◌∷◌, ◌++◌, length, get_or, take, refl, sym, ap, ◌∙◌, subst, subst₂, inl, inr, arith, nat_lt}
+use Rattle.std.proofs.Common.{◌≡◌, ◌⊎◌, ℕ, ◌+◌, ◌-◌, ◌<◌, ◌≤◌, Bool, true, ◌&&◌, List, [], ◌∷◌, ◌++◌, length, get_or, map, take, refl, sym, ap, ◌∙◌, subst, subst₂, inl, inr, arith, nat_lt}
 use Rattle.std.specs.Prelude.{Option}
 use Rattle.std.specs.List.{list_all}
 use Rattle.std.proofs.lemmas.Bool.{cases_lt}
@@ -27,11 +27,12 @@ use Rattle.rinv_acceptance.specs.Fits.{pair_multiplies}
 use Rattle.rinv_ring.specs.Fault.{DegreesMeet}
 use Rattle.rinv_ring.specs.declared.fault.RingFault.{RingFault}
 use Rattle.rinv_poly.proofs.Meets.{meet-weaker}
+use Rattle.rinv_cert.proofs.Same.{map-same}
 use Rattle.rinv_fits.specs.Sums.{SumsMeet}
 use Rattle.rinv_buch.specs.Kinds.{Found}
 use Rattle.rinv_recording.specs.Recorded.{ArePairItemsOf, AreRecorded, IsPairItemOf, PairFits, PairsFit, PairMeets, in_first, in_second, in_division, in_identity, PairsMeet, QuotientsMeet, list_before}
 use Rattle.rinv_recording.specs.Settings.{IsSetting}
-use Rattle.rinv_recording.specs.Divided.{AreDividedAgain, AreQuotientsFor, IsItemFor}
+use Rattle.rinv_recording.specs.Divided.{AreDividedAgain, AreQuotientsFor, HasRoom, IsItemFor}
 
 -- ---- one entry
 
@@ -76,7 +77,7 @@ module _ (s : System) (polys : List Poly) (made i j : ℕ) where
   all-fit : (a b c : Bool) → a ≡ true → b ≡ true → c ≡ true → (a && b && c) ≡ true
   all-fit a b c x y z = rw (x, y, z) refl
 
-  pub quotient-item : i < made → j < made → (added : Option ℕ) (q : List Poly) → AreQuotientsFor s (take made polys) polys i j added q → IsItemFor s (take made polys) polys i j (reduced added) (by_quotients (i + 1) (j + 1) q)
+  quotient-item : i < made → j < made → (added : Option ℕ) (q : List Poly) → AreQuotientsFor s (take made polys) polys i j added q → IsItemFor s (take made polys) polys i j (reduced added) (by_quotients (i + 1) (j + 1) q)
   quotient-item low high added q h = record { entry = (q, refl, h.recorded); fits = fits }
     where
       at : (c : Certificate) → elements c ≡ polys → (k : ℕ) → k < made → element c (k + 1) ≡ get_or (take made polys) k []
@@ -90,6 +91,12 @@ module _ (s : System) (polys : List Poly) (made i j : ℕ) where
 
       fits : PairFits s polys (by_quotients (i + 1) (j + 1) q)
       fits c same are = go c.system same (element c (i + 1)) (element c (j + 1)) (at c are i low) (at c are j high) (elements c) are
+
+  pub reduced-item : (m n : ℕ) → m ≡ i + 1 → n ≡ j + 1 → (added : Option ℕ) (q : List Poly) → HasRoom i j made (length polys) added → AreQuotientsFor s (take made polys) polys i j added q
+      → IsItemFor s (take made polys) polys i j (reduced added) (by_quotients m n (map (λ f. f) q))
+  reduced-item m n first second added q room h =
+      let low : i < made = omega (arith, room.ascending, room.inside) in
+      rw (first, second) (subst (λ (fs : List Poly). IsItemFor s (take made polys) polys i j (reduced added) (by_quotients (i + 1) (j + 1) fs)) (sym (map-same (λ (f : Poly). f) (λ f. refl) q)) (quotient-item low room.inside added q h))
 
 -- ---- the entries in their order
 

@@ -3,3 +3,4 @@ pub mod DividedPairs
 pub mod PaddedLists
 pub mod JournalPlaces
 pub mod EntryItems
+pub mod RecordedSteps

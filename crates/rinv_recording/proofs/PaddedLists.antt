@@ -1,11 +1,12 @@
 -- Lists of polynomials with 1 and zeros behind them.
 --   AreZerosBehind, zeros-begin, zeros-more, zeros-end    the loop that adds zeros
 --   padded-some          quotients with 1 and zeros behind them
---   padded-number        how many there are
-use Rattle.std.proofs.Common.{◌≡◌, ℕ, zero, suc, ◌+◌, ◌-◌, ◌<◌, ◌≤◌, max, List, [], ◌∷◌, ◌++◌, length, length-append, append_assoc, append-nil, replicate, refl, sym, ap, ◌∙◌, subst, arith}
+--   padded-number, again-number     how many there are
+use Rattle.std.proofs.Common.{◌≡◌, ℕ, zero, suc, ◌+◌, ◌-◌, ◌<◌, ◌≤◌, max, List, [], ◌∷◌, ◌++◌, length, length-append, append_assoc, append-nil, replicate, take, nat_lt, refl, sym, ap, ◌∙◌, subst, arith}
 use Rattle.std.specs.Prelude.{Option, Some, None}
 use Rattle.std.specs.List.{AllZip}
-use Rattle.std.proofs.lemmas.List.{length-replicate, length_push, replicate_more}
+use Rattle.std.specs.declared.cmp.Ordering.{Ordering}
+use Rattle.std.proofs.lemmas.List.{length-replicate, length-take-le, length_push, replicate_more}
 use Rattle.std.proofs.lemmas.List.Elements.{AllZip-push, length_all_zip}
 use Rattle.rinv_algebra.specs.Ring.{IsSame}
 use Rattle.rinv_algebra.specs.Residue.{residue_ops}
@@ -15,6 +16,9 @@ use Rattle.rinv_algebra.proofs.ResidueLaws.{residue_laws}
 use Rattle.rinv_groebner.specs.Division.{AreSame}
 use Rattle.rinv_groebner.proofs.JournalUnique.{same_refl}
 use Rattle.rinv_defs.specs.System.{Poly}
+use Rattle.rinv_buch.specs.Runs.{s_at}
+use Rattle.rinv_cofactors.specs.Combining.{AreQuotients}
+use Rattle.rinv_cofactors.proofs.Cofactors.{quotients-number}
 use Rattle.rinv_recording.specs.Recorded.{padded}
 use Rattle.rinv_recording.specs.Divided.{more_elements}
 
@@ -82,3 +86,10 @@ module _ (p : ℕ) where
 
   pub padded-number : (count : ℕ) (qs : List Poly) (added : Option ℕ) (q : List Poly) → length qs + more_elements added ≤ count → AreSame (residue_ops p) q (padded p count qs added) → length q ≡ count
   padded-number count qs added q room same = length_all_zip (IsSame (poly_ops (residue_ops p))) q (padded p count qs added) same ∙ padded-long count qs added room
+
+  pub again-number : (v : ℕ) (cmp : List ℕ → List ℕ → Ordering) (polys : List Poly) (i j made : ℕ) (added : Option ℕ) (qs q : List Poly) → AreQuotients (residue_ops p) (λ c. nat_lt c p) v cmp (take made polys) i j qs → made + more_elements added ≤ length polys
+      → AreSame (residue_ops p) q (padded p (length polys) qs added) → length q ≡ length polys
+  again-number v cmp polys i j made added qs q are room same =
+      let many : length qs ≡ length (take made polys) = quotients-number (residue_ops p) (residue_laws p) cmp (take made polys) (s_at (residue_ops p) cmp (take made polys) i j) qs are.rest (are.steps, are.divides) in
+      let front : length (take made polys) ≡ made = length-take-le made polys (omega (arith, room)) in
+      padded-number (length polys) qs added q (omega (arith, many, front, room)) same
