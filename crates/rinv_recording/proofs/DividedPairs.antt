@@ -1,7 +1,7 @@
 -- The division of a pair's S-polynomial, as it is stored.
 --   s-meets              the degrees that the S-polynomial of residues meets: in one of its multiples
 --   quotients-are, steps-meet    the division of what is the same as the S-polynomial
-use Rattle.std.proofs.Common.{◌≡◌, ◌⊎◌, ℕ, ◌<◌, List, [], ◌∷◌, length, get_or, All, nat_lt, inl, inr, subst₂}
+use Rattle.std.proofs.Common.{◌≡◌, ℕ, List, [], ◌∷◌, get_or, nat_lt, inl, inr, subst₂}
 use Rattle.std.specs.declared.cmp.Ordering.{Ordering}
 use Rattle.rinv_algebra.specs.Ring.{IsSame}
 use Rattle.rinv_algebra.specs.Residue.{residue_ops}

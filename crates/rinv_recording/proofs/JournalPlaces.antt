@@ -15,7 +15,7 @@ use Rattle.rinv_algebra.specs.Ring.{RingOps, RingLaws, IsSame}
 use Rattle.rinv_algebra.specs.Polynomial.{Polynomial, poly_ops, is_zero}
 use Rattle.rinv_algebra.proofs.Degrees.{is_zero-same}
 use Rattle.rinv_groebner.specs.Division.{AreSame}
-use Rattle.rinv_groebner.specs.Journal.{Entry, Kind, reduced, coprime as coprime_kind, chain, nonzeros, Makes, IsEntry, Journal}
+use Rattle.rinv_groebner.specs.Journal.{Entry, Kind, reduced, coprime as coprime_kind, chain, nonzeros, Makes, Journal}
 use Rattle.rinv_defs.specs.System.{Poly}
 use Rattle.rinv_sub.proofs.Sums.{take-at}
 use Rattle.rinv_buch.specs.declared.kinds.Entry.{Entry as StoredEntry}

@@ -6,11 +6,11 @@ use Rattle.std.proofs.Common.{◌≡◌, ℕ, ◌+◌, ◌<◌, ◌≤◌, Bool,
 use Rattle.std.specs.Prelude.{IsFalse, nat_lt}
 use Rattle.std.specs.declared.cmp.Ordering.{Ordering}
 use Rattle.std.proofs.lemmas.List.Elements.{All-nil, All-cons}
-use Rattle.rinv_algebra.specs.Ring.{RingOps, RingLaws, IsSame}
+use Rattle.rinv_algebra.specs.Ring.{RingOps, RingLaws}
 use Rattle.rinv_algebra.specs.Residue.{residue_ops}
 use Rattle.rinv_algebra.specs.Monomial.{quotient, lcm, total_degree, max_degree}
 use Rattle.rinv_algebra.specs.MonomialOrder.{MonoOrderLaws}
-use Rattle.rinv_algebra.specs.Polynomial.{Term, Polynomial, coefficient, is_zero, has_monomial, same}
+use Rattle.rinv_algebra.specs.Polynomial.{Polynomial, coefficient, is_zero, has_monomial, same}
 use Rattle.rinv_algebra.specs.Normal.{IsNormal}
 use Rattle.rinv_algebra.specs.Leading.{leading_monomial, leading_coefficient, multiplier}
 use Rattle.rinv_algebra.specs.Fits.{product_fits}

@@ -2,9 +2,8 @@
 --   AreZerosBehind, zeros-begin, zeros-more, zeros-end    the loop that adds zeros
 --   padded-some          quotients with 1 and zeros behind them
 --   padded-number, again-number     how many there are
-use Rattle.std.proofs.Common.{◌≡◌, ℕ, zero, suc, ◌+◌, ◌-◌, ◌<◌, ◌≤◌, max, List, [], ◌∷◌, ◌++◌, length, length-append, append_assoc, append-nil, replicate, take, nat_lt, refl, sym, ap, ◌∙◌, subst, arith}
+use Rattle.std.proofs.Common.{◌≡◌, ℕ, ◌+◌, ◌-◌, ◌<◌, ◌≤◌, max, List, [], ◌∷◌, ◌++◌, length, length-append, append_assoc, append-nil, replicate, take, nat_lt, sym, ap, ◌∙◌, subst, arith}
 use Rattle.std.specs.Prelude.{Option, Some, None}
-use Rattle.std.specs.List.{AllZip}
 use Rattle.std.specs.declared.cmp.Ordering.{Ordering}
 use Rattle.std.proofs.lemmas.List.{length-replicate, length-take-le, length_push, replicate_more}
 use Rattle.std.proofs.lemmas.List.Elements.{AllZip-push, length_all_zip}
@@ -81,7 +80,7 @@ module _ (p : ℕ) where
   padded-long : (count : ℕ) (qs : List Poly) (added : Option ℕ) → length qs + more_elements added ≤ count → length (padded p count qs added) ≡ count
   padded-long count qs None room = omega (arith, length-append qs (replicate (count - length qs) []), length-replicate {A = Poly} (count - length qs) [], room)
   padded-long count qs (Some at) room =
-      let zs = replicate (count - (length qs + 1)) [] in
+      let zs : List Poly = replicate (count - (length qs + 1)) [] in
       omega (arith, length-append qs ((poly_ops (residue_ops p)).one ∷ zs), length-replicate {A = Poly} (count - (length qs + 1)) [], room)
 
   pub padded-number : (count : ℕ) (qs : List Poly) (added : Option ℕ) (q : List Poly) → length qs + more_elements added ≤ count → AreSame (residue_ops p) q (padded p count qs added) → length q ≡ count

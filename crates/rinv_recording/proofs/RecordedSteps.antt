@@ -59,9 +59,6 @@ module _ (s : System) (found : Found ℕ) (action : IsActionBasis s found) where
   pub recorded-few : adding found.journal ≤ length found.polys
   recorded-few = omega (arith, count)
 
-  pub given-few : (made : ℕ) → made + adding found.journal ≡ length found.polys → made ≤ length found.polys
-  given-few made is = omega (arith, is)
-
   module _ (p v : ℕ) (ends : List ℕ) (set : IsSetting s p v ends) where
     pub recorded-begin : {R : Type 0} (made : ℕ) → made + adding found.journal ≡ length found.polys → (ds : List (Divisor R ℕ)) → AreDivisors (residue_ops p) (λ c. nat_lt c p) v (block_order (sizes_from 0 ends)) (take made found.polys) ds
         → IsRecordedTo s found p v ends 0 made ds []

@@ -1,4 +1,4 @@
-use Rattle.std.proofs.Common.{length, take, nat_lt, arith}
+use Rattle.std.proofs.Common.{nat_lt, arith}
 use Rattle.std.proofs.lemmas.List.{length-take-le}
 use Rattle.std.proofs.lemmas.List.Elements.{All-take}
 use Rattle.rinv_algebra.specs.BlockEnds.{sizes_from}

@@ -10,8 +10,7 @@ pub overflow_sub-given : goal.overflow_sub-given
 overflow_sub-given c =
     let seen = c.args.journal.now in
     let k = c.entries.k in
-    let left = given-left seen c.args.count k c.entries.given c.entries.invariant (get_or seen k no_entry) c.entries-test.true (stands seen k c.entries-test.true) (sym c.adds.ensures ∙ c.if-adds.true) c.requires in
-    record { fits = omega (arith, left) }
+    given-left seen c.args.count k c.entries.given c.entries.invariant (get_or seen k no_entry) c.entries-test.true (stands seen k c.entries-test.true) (sym c.adds.ensures ∙ c.if-adds.true) c.requires
 
 pub entries-preserved : goal.entries-preserved
 entries-preserved c =

@@ -1,4 +1,4 @@
-use Rattle.std.proofs.Common.{◌≡◌, ◌+◌, length, take}
+use Rattle.std.proofs.Common.{◌≡◌, ◌+◌, take}
 use Rattle.rinv_buch.specs.Kinds.{journal_of}
 use Rattle.rinv_recording.proofs.JournalPlaces.{adding}
 use Rattle.rinv_recording.proofs.pairs.given_count.Given as goal

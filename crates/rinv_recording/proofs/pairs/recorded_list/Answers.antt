@@ -1,16 +1,12 @@
 use Rattle.std.proofs.Common.{◌≡◌, ◌<◌, ◌+◌, ◌∙◌, ℕ, List, [], ◌∷◌, ◌++◌, true, false, rules, length, map, take, get_or, sym, subst, arith, nat_lt}
 use Rattle.std.proofs.lemmas.List.{map-append}
 use Rattle.std.proofs.lemmas.Result.{err_from_is_err_and}
-use Rattle.rinv_algebra.specs.BlockEnds.{sizes_from}
-use Rattle.rinv_algebra.specs.Order.{block_order}
 use Rattle.rinv_algebra.specs.Residue.{residue_ops}
 use Rattle.rinv_algebra.specs.Polynomial.{is_zero}
 use Rattle.rinv_algebra.specs.Normal.{IsNormal}
 use Rattle.rinv_ring.specs.Fault.{DegreesMeet}
-use Rattle.rinv_defs.specs.System.{Poly}
 use Rattle.rinv_defs.specs.Certificate.{PairItem}
 use Rattle.rinv_cert.specs.Seen.{pair_item_by}
-use Rattle.rinv_div.specs.Divisors.{AreDivisors}
 use Rattle.rinv_cofactors.specs.Combining.{adds}
 use Rattle.rinv_buch.specs.Kinds.{entry_of, journal_of}
 use Rattle.rinv_recording.specs.Recorded.{PairMeets}

@@ -1,6 +1,5 @@
-use Rattle.std.proofs.Common.{◌≡◌, ◌∙◌, ℕ, List, map, sym, ap₂, subst}
+use Rattle.std.proofs.Common.{◌≡◌, ◌∙◌, ℕ, map, sym, ap₂, subst}
 use Rattle.std.proofs.lemmas.Result.{err_from_is_err_and}
-use Rattle.rinv_defs.specs.System.{Poly}
 use Rattle.rinv_ring.specs.Fault.{DegreesMeet}
 use Rattle.rinv_cert.specs.Seen.{pair_item_by}
 use Rattle.rinv_buch.specs.Kinds.{Found}
