@@ -1,5 +1,5 @@
 -- What stands for the variables where Z = g, as it is made in a ring with these numbers.
-use Rattle.std.proofs.Common.{◌≡◌, ℕ, ◌*◌, ◌++◌, List, map, refl, subst₂, arith}
+use Rattle.std.proofs.Common.{◌≡◌, ℕ, ◌*◌, ◌++◌, List, map, arith}
 use Rattle.std.specs.List.{range_with_len}
 use Rattle.rinv_algebra.specs.Residue.{residue_ops}
 use Rattle.rinv_algebra.specs.Polynomial.{variable}

@@ -7,10 +7,10 @@
 --   value-proved         the sums of products are the cofactors of the value
 --   sums-meet            the degrees that they meet
 --   identity-meets       those of the cofactors times the ideal
-use Rattle.std.proofs.Common.{◌≡◌, ◌<◌, ◌*◌, ◌++◌, length-append, arith, ℕ, Bool, true, false, ◌&&◌, List, [], ◌∷◌, length, get_or, map, All, nat_lt, IsTrue, refl, sym, ◌∙◌, ap, subst, subst₂}
-use Rattle.std.specs.Prelude.{IsFalse, Result, IfOk, IfErr, OnOk}
+use Rattle.std.proofs.Common.{◌≡◌, ◌<◌, ◌*◌, ◌++◌, length-append, arith, ℕ, Bool, true, false, List, [], ◌∷◌, length, get_or, map, nat_lt, IsTrue, refl, sym, ◌∙◌, ap, subst, subst₂}
+use Rattle.std.specs.Prelude.{Result, IfOk, IfErr, OnOk}
 use Rattle.std.specs.Result.{MatchResult}
-use Rattle.std.specs.List.{AllZip, range_with_len}
+use Rattle.std.specs.List.{range_with_len}
 use Rattle.std.proofs.lemmas.List.{length-map}
 use Rattle.std.proofs.lemmas.List.Elements.{length_all_zip}
 use Rattle.std.proofs.lemmas.List.FromFn.{length-range_with_len, length-map-range_with_len}

@@ -1,9 +1,9 @@
 -- What the cofactors of values at Z = g are made of.
 --   IsGround             that of a system and a basis of its group's ideal
 --   IsSomeGround         that of some
-use Rattle.std.specs.Prelude.{◌≡◌, ℕ, ◌+◌, ◌*◌, List, map}
+use Rattle.std.specs.Prelude.{◌≡◌, ℕ, List, map}
 use Rattle.rinv_buch.specs.Kinds.{Found}
-use Rattle.rinv_defs.specs.System.{System, Poly, group_count, space_count}
+use Rattle.rinv_defs.specs.System.{System, Poly}
 use Rattle.rinv_defs.specs.SystemForm.{IsSystem}
 use Rattle.rinv_defs.specs.Conditions.{graph_point}
 use Rattle.rinv_reduction.specs.Localised.{all_count}

@@ -1,9 +1,8 @@
-use Rattle.std.proofs.Common.{◌∙◌, List, length, sym, ap, subst}
+use Rattle.std.proofs.Common.{◌∙◌, List, length, sym, ap}
 use Rattle.std.proofs.lemmas.Result.{err_from_is_err_and}
 use Rattle.rinv_defs.specs.System.{Poly}
 use Rattle.rinv_defs.specs.Conditions.{graph_point}
 use Rattle.rinv_poly.proofs.Meets.{meet-weaker}
-use Rattle.rinv_parts.specs.Points.{AreStored}
 use Rattle.rinv_parts.specs.Substitutions.{TakenMeets}
 use Rattle.rinv_parts.proofs.Stored.{normal-over, stored-normal}
 use Rattle.rinv_change.specs.Changes.{change_count}
