@@ -1,12 +1,12 @@
 -- The greatest degree of some terms, one term more; and products that fit by the greatest degrees of both factors.
-use Rattle.std.proofs.Common.{◌≡◌, ℕ, zero, suc, ◌+◌, ◌<◌, ◌≤◌, max, Bool, true, false, List, [], ◌∷◌, ◌++◌, length, get_or, take, All, subst, sym, ap, arith, refl, ◌∙◌, inl, inr}
-use Rattle.std.specs.Prelude.{Contains, nat_lt, ◌==◌}
+use Rattle.std.proofs.Common.{◌≡◌, ℕ, ◌+◌, ◌<◌, ◌≤◌, max, Bool, true, false, [], ◌∷◌, ◌++◌, length, get_or, take, All, subst, sym, ap, arith, refl, ◌∙◌, inl, inr}
+use Rattle.std.specs.Prelude.{nat_lt, ◌==◌}
 use Rattle.std.proofs.lemmas.Bool.{cases_order}
 use Rattle.std.proofs.lemmas.Bool.Decides.{nat_tests}
 use Rattle.std.proofs.lemmas.List.{take_all, take_more}
 use Rattle.std.proofs.lemmas.List.Elements.{All-push}
 use Rattle.rinv_algebra.specs.Monomial.{total_degree, max_degree}
-use Rattle.rinv_algebra.specs.Polynomial.{Term, Polynomial}
+use Rattle.rinv_algebra.specs.Polynomial.{Term}
 use Rattle.rinv_algebra.specs.Residue.{residue_ops}
 use Rattle.rinv_algebra.specs.Normal.{IsNormal}
 use Rattle.rinv_algebra.specs.Fits.{product_fits}

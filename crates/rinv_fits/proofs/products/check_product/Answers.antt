@@ -1,4 +1,4 @@
-use Rattle.std.proofs.Common.{◌≤◌, ◌<◌, ◌+◌, length, subst, sym, arith, All}
+use Rattle.std.proofs.Common.{◌≤◌, ◌<◌, ◌+◌, subst, arith, All}
 use Rattle.rinv_algebra.specs.Monomial.{total_degree, max_degree}
 use Rattle.rinv_defs.specs.System.{Poly}
 use Rattle.rinv_poly.specs.Faults.{IsDegreeOf}
