@@ -1,0 +1,2 @@
+pub mod ProvedValues
+pub mod GroundParts

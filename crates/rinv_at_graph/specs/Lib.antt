@@ -1,0 +1,6 @@
+-- values at Z = g, and their cofactors
+pub mod AtGraph
+-- the quotients that make them
+pub mod Quotients
+-- what these are made of
+pub mod Grounds

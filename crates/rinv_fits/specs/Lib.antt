@@ -1,0 +1,2 @@
+-- the degrees that sums of products meet
+pub mod Sums

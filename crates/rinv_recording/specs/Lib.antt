@@ -1,0 +1,6 @@
+-- the pairs of a basis as a certificate has them
+pub mod Recorded
+-- what their making is given
+pub mod Settings
+-- an entry, step by step
+pub mod Divided
