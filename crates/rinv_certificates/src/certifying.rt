@@ -7,8 +7,9 @@ ghost use Rattle.rinv_certificates.specs.Commands.Certify.{IsCertifyAnswer, IsMa
 
 use crate::stopping::stopped;
 use crate::text::certificate_answer;
-use rinv_answers::{Ending, refused_line};
+use rinv_answers::refused_line;
 use rinv_generators::generators_on;
+use rinv_lines::Ending;
 use rinv_system::{SystemStop, read_system};
 use rinv_text::System;
 use std::alloc::{AllocError as NoMemory, Global};

@@ -6,9 +6,11 @@ ghost use Rattle.rinv_generators.specs.Stops.{NeverMissesSo, SectionStopsSo};
 ghost use Rattle.rinv_answers.specs.Budgets.{IsLimited};
 ghost use Rattle.rinv_certificates.specs.Commands.Certify.{IsMade};
 
-use rinv_answers::{Ending, cause_of, fault_line, incomplete_line, missed_line, phase_of};
+use rinv_answers::commands::generators::phase_of;
+use rinv_answers::{cause_of, fault_line, incomplete_line, missed_line};
 use rinv_generators::SectionStop;
 use rinv_gens::GenStop;
+use rinv_lines::Ending;
 use rinv_text::System;
 use std::alloc::{AllocError as NoMemory, Global};
 

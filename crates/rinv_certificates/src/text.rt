@@ -7,10 +7,11 @@ ghost use Rattle.rinv_cert.specs.Seen.{plain};
 ghost use Rattle.rinv_certificates.specs.Commands.Certify.{IsMade};
 ghost use Rattle.rinv_certificates.specs.Texts.{certificate_text};
 
-use rinv_answers::{Cause, Ending, Phase, incomplete_line};
+use rinv_answers::{Cause, Phase, incomplete_line};
 use rinv_cert::{Certificate, to_json};
 use rinv_certify::{CertifyStop, certify};
 use rinv_generators::kinds::Generators;
+use rinv_lines::Ending;
 use std::alloc::{AllocError as NoMemory, Global};
 
 // The greatest number of bytes of a certificate's text: that of an input.

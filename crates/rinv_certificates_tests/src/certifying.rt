@@ -1,9 +1,9 @@
 //! Systems and the certificates of their generators, which are read and checked again; and systems that have none.
 
-use rinv_answers::Ending;
 use rinv_cert::{Kind, from_json};
 use rinv_certificates::answer;
 use rinv_check::{Verdict, check};
+use rinv_lines::Ending;
 use std::alloc::Global;
 
 // A text of a system, and how many generators it has.

@@ -5,15 +5,14 @@ ghost use Rattle.rinv_defs.specs.SystemForm.{IsSystem};
 ghost use Rattle.rinv_gens.specs.Found.{ArePieces};
 ghost use Rattle.rinv_answers.specs.Budgets.{IsLimited};
 ghost use Rattle.rinv_answers.specs.Incomplete.{phase_of};
-ghost use Rattle.rinv_answers.specs.Stopped.{StopsSo};
+ghost use Rattle.rinv_lines.specs.Stopped.{StopsSo};
 ghost use Rattle.rinv_answers.specs.Commands.Generators.{IsFound, IsGenAnswer, IsUnfound};
 
-use crate::ending::Ending;
 use crate::generator_lines::{generator_text, missed_line};
 use crate::incomplete::{Phase, cause_of, incomplete_line};
 use crate::law_lines::{fault_line, refused_line};
-use crate::stopped::Stopped;
 use rinv_gens::{Findings, GenStop, pieces};
+use rinv_lines::{Ending, Stopped};
 use rinv_system::{SystemStop, read_system};
 use rinv_text::System;
 use std::alloc::{AllocError as NoMemory, Global};
@@ -77,8 +76,8 @@ pub fn generated(alloc: Global, system: &System) -> Result<Findings, Stopped>
     }
 }
 
-// The part of the work for generators.
-fn phase_of(phase: rinv_gens::Phase) -> Phase
+/// The part of the work for generators.
+pub fn phase_of(phase: rinv_gens::Phase) -> Phase
     ensures { result ≡ phase_of phase }
 {
     match phase {

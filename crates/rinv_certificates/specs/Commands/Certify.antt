@@ -13,8 +13,8 @@ use Rattle.rinv_generators.specs.Generated.{Generated, IsGenerators}
 use Rattle.rinv_generators.specs.Stops.{WorkHaltsIn}
 use Rattle.rinv_certification.specs.Made.{IsCertificateOf}
 use Rattle.rinv_certify.specs.Meets.{CertificateMeets}
-use Rattle.rinv_answers.specs.declared.ending.Ending.{Ending}
-use Rattle.rinv_answers.specs.declared.ending.Ending.TheVariants.{Done, Denied, Refused, Incomplete}
+use Rattle.rinv_lines.specs.declared.ending.Ending.{Ending}
+use Rattle.rinv_lines.specs.declared.ending.Ending.TheVariants.{Done, Denied, Refused, Incomplete}
 use Rattle.rinv_answers.specs.declared.incomplete.Phase.TheVariants as phase
 use Rattle.rinv_answers.specs.declared.incomplete.Cause.TheVariants as cause
 use Rattle.rinv_answers.specs.Budgets.{IsWithin}
