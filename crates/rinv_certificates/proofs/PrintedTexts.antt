@@ -1,9 +1,10 @@
 -- What is printed of a certificate.
 --   denoted-fed          a text and a line feed denote what the text does
 --   certified            the certificate of generators is printed
-use Rattle.std.proofs.Common.{◌≡◌, ℕ, ◌≤◌, List, [], ◌∷◌, ◌++◌, length, sym, ◌∙◌, ap, subst, refl}
-use Rattle.std.specs.Prelude.{codes}
-use Rattle.std.proofs.lemmas.Str.{IsUtf8-append, IsUtf8-from_ascii}
+--   too-long             or is too long
+use Rattle.std.proofs.Common.{◌≡◌, ℕ, ◌<◌, ◌≤◌, List, [], ◌∷◌, ◌++◌, length, ◌∙◌, ap, subst, refl}
+use Rattle.std.specs.Prelude.{IsUtf8}
+use Rattle.std.proofs.lemmas.Str.{IsUtf8-append}
 use Rattle.rinv_defs.specs.Certificate.{Certificate}
 use Rattle.rinv_defs.specs.Accepted.{IsAccepted}
 use Rattle.rinv_json.specs.Denoted.{DenotesCertificate}
@@ -13,14 +14,20 @@ use Rattle.rinv_json.proofs.SmallValues.{certificate_line_feed}
 use Rattle.rinv_text.specs.Told.{Told}
 use Rattle.rinv_generators.specs.Generated.{Generated, IsGenerators}
 use Rattle.rinv_certification.specs.Made.{HasCommonPart, IsCertificateOf}
-use Rattle.rinv_certificates.specs.Commands.Certify.{IsCertificateFor, IsCertified}
+use Rattle.rinv_answers.specs.declared.incomplete.Phase.TheVariants as phase
+use Rattle.rinv_answers.specs.declared.incomplete.Cause.TheVariants as cause
+use Rattle.rinv_answers.specs.Incomplete.{incomplete_line}
+use Rattle.rinv_certificates.specs.Commands.Certify.{IsCertificateFor, IsCertified, IsCutShort}
 use Rattle.rinv_certificates.specs.Texts.{certificate_text, max_text}
+
+fed : IsUtf8 (10 ∷ [])
+fed = (10 ∷ [], (refl, refl))
 
 -- a text and a line feed denote what the text does
 pub denoted-fed : (c : Certificate) → IsWritable c → DenotesCertificate (json_text c) c → DenotesCertificate (certificate_text c) c
 denoted-fed c small d = record {
   json = d.json;
-  text = record { text = IsUtf8-append (json_text c) (10 ∷ []) d.text.text (IsUtf8-from_ascii (10 ∷ []) ?); value = certificate_line_feed c small ∙ d.text.value };
+  text = record { text = IsUtf8-append (json_text c) (10 ∷ []) d.text.text fed; value = certificate_line_feed c small ∙ d.text.value };
   is = d.is;
 }
 
@@ -29,7 +36,7 @@ common-of : (g : Generated) (c : Certificate) → IsCertificateOf g c → HasCom
 common-of g c (IsCertificateOf.is_full none kind common basis) = common
 common-of g c (IsCertificateOf.is_sound some kind common nothing) = common
 
-pub is-for : (g : Generated) (c : Certificate) → IsGenerators g → IsCertificateOf g c → IsCertificateFor g.told c
+is-for : (g : Generated) (c : Certificate) → IsGenerators g → IsCertificateOf g c → IsCertificateFor g.told c
 is-for g c gens made = record { generators = g; are_generators = gens; of_system = refl; made = made }
 
 -- the certificate of generators is printed
@@ -41,3 +48,8 @@ certified g c text gens made accepted small printed denoted fits = record {
   accepted = accepted;
   printed = record { fits = subst (λ (t : List ℕ). length t ≤ max_text) printed fits; denoted = denoted; printed = printed };
 }
+
+-- it is too long
+pub too-long : (g : Generated) (c : Certificate) (text line : List ℕ) → IsGenerators g → IsCertificateOf g c → text ≡ certificate_text c → max_text < length text → line ≡ incomplete_line phase.Certificate cause.Length → IsCutShort g.told line
+too-long g c text line gens made printed long is =
+    IsCutShort.by_length c (is-for g c gens made) (record { long = subst (λ (t : List ℕ). max_text < length t) printed long; printed = is })

@@ -4,6 +4,7 @@ ghost use Rattle.std.specs.Prelude.{◌≡◌, IfOk};
 ghost use Rattle.rinv_json.specs.Denoted.{DenotesCertificate};
 ghost use Rattle.rinv_json.specs.Ranges.{IsWritable};
 ghost use Rattle.rinv_cert.specs.Seen.{plain};
+ghost use Rattle.rinv_generators.specs.Generated.{IsGenerators};
 ghost use Rattle.rinv_certificates.specs.Commands.Certify.{IsMade};
 ghost use Rattle.rinv_certificates.specs.Texts.{certificate_text};
 
@@ -22,6 +23,7 @@ pub(crate) fn certificate_answer(
     alloc: Global,
     gens: &Generators,
 ) -> Result<(Vec<u8>, Ending), NoMemory>
+    requires { IsGenerators gens.now }
     ensures { IfOk result (λ a. IsMade gens.now.told a.0.items a.1) }
 {
     match certify(alloc, gens) {

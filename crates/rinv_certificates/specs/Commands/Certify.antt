@@ -1,7 +1,7 @@
 -- What `certify` answers to bytes.
 --   IsCertificateFor         the certificate of generators of a system
 --   IsCertified, IsCutShort  it is printed, or why there is none
---   IsPhaseCut               a phase on the way to the generators, or to their proofs, is halted
+--   IsWorkCut               a phase on the way to the generators, or to their proofs, is halted
 use Rattle.std.specs.Prelude.{◌≡◌, ℕ, List, []}
 use Rattle.rinv_groebner.specs.Journal.{Entry}
 use Rattle.rinv_defs.specs.Certificate.{Certificate}
@@ -39,7 +39,7 @@ pub record IsCertified (told : Told) (text : List ℕ) : Type 0 where
   pub printed : IsCertificateText certificate text
 
 -- a phase halts, on the way to the generators or to their proofs, with a journal within the budget
-pub record IsPhaseCut (told : Told) (text : List ℕ) : Type 0 where
+pub record IsWorkCut (told : Told) (text : List ℕ) : Type 0 where
   pub phase : Phase
   pub journal : List Entry
   pub why : Why
@@ -59,7 +59,7 @@ pub record MeetsDegrees (told : Told) (text : List ℕ) : Type 0 where
 
 -- a phase is halted; or the certificate meets degrees, or is too long
 pub data IsCutShort (told : Told) (text : List ℕ) : Type 0 where
-  in_phase : IsPhaseCut told text → IsCutShort told text
+  in_phase : IsWorkCut told text → IsCutShort told text
   by_degrees : MeetsDegrees told text → IsCutShort told text
   by_length : (c : Certificate) → IsCertificateFor told c → IsTooLong c text → IsCutShort told text
 
