@@ -1,10 +1,12 @@
-"""Runs rinv from Python, or from Sage: systems and certificates in, generators and verdicts out.
+"""Runs rinv from Python, or from Sage: systems and certificates in, generators, expressions and verdicts out.
 
     >>> import rinv
     >>> rotations = rinv.System(101, "a, b", "x, y", ideal="a^2+b^2-1", unit="1, 0", product="a*a'-b*b', a*b'+b*a'",
     ...                         inverse="a, -b", action="a*x-b*y, b*x+a*y")
     >>> rotations.generators()
     ['x^2 + y^2']
+    >>> rotations.rewrite("(x^2+y^2)^3/(1+x^2+y^2)")
+    'y1^3/(y1 + 1)'
     >>> rinv.check(open("examples/certificates/translations-full.json").read()).worth
     'complete'
 
@@ -47,6 +49,18 @@ class SectionMisses(RinvError):
     def __init__(self, text, element):
         super().__init__(text)
         self.element = element
+
+
+class NotInvariant(RinvError):
+    """The fraction is not invariant; `rest` is the normal form of its change."""
+
+    def __init__(self, text, rest):
+        super().__init__(text)
+        self.rest = rest
+
+
+class VanishingDenominator(RinvError):
+    """The fraction is invariant, and its denominator vanishes on the section."""
 
 
 class Incomplete(RinvError):
@@ -96,7 +110,7 @@ def answer(words, text, timeout=None):
         raise LawFails(first, found[1], int(found[2]), found[3])
     if found := re.fullmatch(r"denied section misses element (.*)", first):
         raise SectionMisses(first, found[1])
-    if found := re.fullmatch(r"incomplete (\S+) (.*)", first):
+    if found := re.fullmatch(r"incomplete (query \d+|\S+) (.*)", first):
         raise Incomplete(first, found[1], found[2])
     raise Failed(status)
 
@@ -139,9 +153,28 @@ class System:
         """Generators of all invariant fractions, as strings; with a section they are invariant fractions."""
         return fractions(answer(["gen"], self.text, timeout)[:-1])
 
+    def rewrite(self, fraction, timeout=None):
+        """The expression of one invariant fraction in the generators y1, y2, ..."""
+        return self.rewrite_all([fraction], timeout)[0]()
+
+    def rewrite_all(self, several, timeout=None):
+        """A call for each fraction that gives its expression, or raises NotInvariant or VanishingDenominator."""
+        text = self.text.rstrip("\n") + "".join(f"\nrewrite {f}" for f in several) + "\n"
+        lines = answer(["rewrite"], text, timeout)
+        told = [line for line in lines if line.startswith("rewrite ")]
+        return [lambda line=line: expression(line) for line in told]
+
 
 def fractions(lines):
     return [line.split(" = ", 1)[1] for line in lines]
+
+
+def expression(line):
+    if found := re.fullmatch(r"rewrite \d+ = (.*)", line):
+        return found[1]
+    if found := re.fullmatch(r"rewrite \d+ not invariant rest (.*)", line):
+        raise NotInvariant(line, found[1])
+    raise VanishingDenominator(line)
 
 
 class Verdict:

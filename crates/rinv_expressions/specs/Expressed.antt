@@ -3,14 +3,14 @@
 --   Answers       that, or its denominator vanishes on the section
 --   StopsSo       why there is no answer
 --   StopsOn       why there is no expression
-use Rattle.std.specs.Prelude.{List, Option, ⊤}
+use Rattle.std.specs.Prelude.{List, Option, Some, None, ⊤}
 use Rattle.rinv_defs.specs.Invariant.{Fraction}
 use Rattle.rinv_defs.specs.Generators.{Expression}
 use Rattle.rinv_soundness.specs.Rewriting.{SymbolRelation}
 use Rattle.rinv_change.specs.Changes.{IsStray}
 use Rattle.rinv_generators.specs.Generated.{Generated}
 use Rattle.rinv_rewrite.specs.declared.stop.RewriteStop.{RewriteStop}
-use Rattle.rinv_rewrite.specs.Answers.{IsAnswer, IsExpression}
+use Rattle.rinv_rewrite.specs.Answers.{IsExpression}
 use Rattle.rinv_rewrite.specs.Needed.{RewritingMeets}
 use Rattle.rinv_rewrite.specs.Prepared.{symbol_relations}
 use Rattle.rinv_rewrite.specs.Stops.{RewriteStopsSo}
@@ -26,9 +26,10 @@ relations_of g = symbol_relations g.told.system.p g.relations
 abbrev pub Expresses : Generated → Fraction → Expression → Type 0
 Expresses g f e = IsExpression g.told.system g.fractions (relations_of g) f e
 
--- the expression of f, or its denominator vanishes on the section
+-- the expression of f, or f is invariant and its denominator vanishes on the section
 abbrev pub Answers : Generated → Fraction → Option Expression → Type 0
-Answers g f answer = IsAnswer g.told.system g.fractions (relations_of g) f answer
+Answers g f None = IsVanishing g.told.system f
+Answers g f (Some e) = Expresses g f e
 
 -- f is not invariant, and this is the normal form of its change; or degrees are met
 abbrev pub StopsSo : Generated → Fraction → RewriteStop → Type 0

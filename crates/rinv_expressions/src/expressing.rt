@@ -9,7 +9,7 @@ ghost use Rattle.rinv_expressions.specs.Expressed.{Answers, Expresses, StopsSo, 
 
 use crate::stop::OnStop;
 use rinv_frac::Frac;
-use rinv_generators::Generators;
+use rinv_generators::kinds::Generators;
 use rinv_rewrite::{Expression, RewriteStop, prepared_for, rewritten_by};
 use std::alloc::Global;
 

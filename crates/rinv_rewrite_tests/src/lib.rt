@@ -2,4 +2,6 @@
 #![tactic(auto)]
 
 #[cfg(test)]
+mod expressing;
+#[cfg(test)]
 mod rewriting;
