@@ -2,7 +2,7 @@
 --   denoted-fed          a text and a line feed denote what the text does
 --   certified            the certificate of generators is printed
 --   too-long             or is too long
-use Rattle.std.proofs.Common.{◌≡◌, ℕ, ◌<◌, ◌≤◌, List, [], ◌∷◌, ◌++◌, length, ◌∙◌, ap, subst, refl}
+use Rattle.std.proofs.Common.{◌≡◌, ℕ, ◌<◌, ◌≤◌, List, [], ◌∷◌, length, ◌∙◌, subst, refl}
 use Rattle.std.specs.Prelude.{IsUtf8}
 use Rattle.std.proofs.lemmas.Str.{IsUtf8-append}
 use Rattle.rinv_defs.specs.Certificate.{Certificate}
@@ -11,7 +11,6 @@ use Rattle.rinv_json.specs.Denoted.{DenotesCertificate}
 use Rattle.rinv_json.specs.Ranges.{IsWritable}
 use Rattle.rinv_json.specs.Written.{json_text}
 use Rattle.rinv_json.proofs.SmallValues.{certificate_line_feed}
-use Rattle.rinv_text.specs.Told.{Told}
 use Rattle.rinv_generators.specs.Generated.{Generated, IsGenerators}
 use Rattle.rinv_certification.specs.Made.{HasCommonPart, IsCertificateOf}
 use Rattle.rinv_answers.specs.declared.incomplete.Phase.TheVariants as phase
@@ -21,6 +20,7 @@ use Rattle.rinv_certificates.specs.Commands.Certify.{IsCertificateFor, IsCertifi
 use Rattle.rinv_certificates.specs.Texts.{certificate_text, max_text}
 
 fed : IsUtf8 (10 ∷ [])
+unfolding lib.Utf8.encode
 fed = (10 ∷ [], (refl, refl))
 
 -- a text and a line feed denote what the text does
