@@ -1,8 +1,7 @@
 -- What `certify` printed once it was done is accepted.
 --   short, accepted
-use Rattle.std.proofs.Common.{◌≡◌, ℕ, ◌≤◌, List, length, Bool, true, false, Option, Some, None, Ordering, refl, sym, ap, ◌∙◌, subst, true≢false}
+use Rattle.std.proofs.Common.{◌≡◌, ℕ, ◌≤◌, List, length, Bool, true, false, Option, Some, None, refl, sym, ap, ◌∙◌, subst, true≢false}
 use Rattle.serde_json.specs.Data.{Data}
-use Rattle.serde_json.specs.Read.{read}
 use Rattle.rinv_defs.specs.Certificate.{Certificate}
 use Rattle.rinv_defs.specs.Accepted.{first_failure}
 use Rattle.rinv_json.specs.Reading.{Reading, found, refused}
@@ -17,18 +16,18 @@ use Rattle.rinv_certificates.specs.Commands.Certify.{IsCertified, IsCertifyAnswe
 use Rattle.rinv_certificates.specs.Texts.{max_text}
 
 -- a text denotes one certificate, and is not refused
-data-of : Option Data → Data → Data
+abbrev data-of : Option Data → Data → Data
 data-of None d = d
 data-of (Some e) d = e
 
 one-value : (text : List ℕ) (d e : Data) → IsJson text d → IsJson text e → d ≡ e
 one-value text d e h k = ap (λ (o : Option Data). data-of o d) (sym h.value ∙ k.value)
 
-certificate-in : Reading Certificate → Certificate → Certificate
+abbrev certificate-in : Reading Certificate → Certificate → Certificate
 certificate-in (found x) c = x
 certificate-in (refused part place) c = c
 
-is-found : Reading Certificate → Bool
+abbrev is-found : Reading Certificate → Bool
 is-found (found x) = true
 is-found (refused part place) = false
 
@@ -41,7 +40,7 @@ never-refused text part place c h (IsRefused.no_json none word first) = none h.j
 never-refused text part place c h (IsRefused.at_part d json is) =
     true≢false (sym (ap is-found (sym is ∙ ap certificate_of (one-value text d h.json json h.text) ∙ h.is)))
 
-is-some : Option (ℕ × ℕ) → Bool
+abbrev is-some : Option (ℕ × ℕ) → Bool
 is-some None = false
 is-some (Some f) = true
 

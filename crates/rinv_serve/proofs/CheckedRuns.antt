@@ -15,7 +15,7 @@ use Rattle.rinv_serve.specs.Words.{command_of}
 use Rattle.rinv_serve.specs.Accepted.{Certifies, Checks}
 use Rattle.rinv_serve.proofs.RunHeadlines.{grown}
 
-command-in : Option Command → Command
+abbrev command-in : Option Command → Command
 command-in None = Check
 command-in (Some c) = c
 
