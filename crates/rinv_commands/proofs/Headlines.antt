@@ -22,6 +22,7 @@ use Rattle.rinv_script.specs.Queries.{Query, Script, need_generators}
 use Rattle.rinv_script.specs.ScriptTexts.{IsScriptText}
 use Rattle.rinv_queries.specs.Lines.{last_line_of, query_lines}
 use Rattle.rinv_queries.specs.Cuts.{IsQueryCut}
+use Rattle.rinv_certificates.specs.Commands.Certify.{IsCertifyAnswer, IsCutShort, IsMade}
 use Rattle.rinv_queries.specs.Commands.Rewrite.{IsRewriteAnswer, IsRewritten, ShowsExpressions}
 use Rattle.rinv_queries.specs.Commands.Run.{AnswersQueries, AreCompleteIf, IsCutIf, IsDenialIf, IsRunAnswer, IsScripted}
 use Rattle.rinv_commands.specs.declared.command.Command.{Command}
@@ -30,6 +31,7 @@ use Rattle.rinv_commands.specs.Answers.{IsAnswer}
 use Rattle.rinv_commands.specs.Headline.{EndsComplete, IsHeadline}
 use Rattle.rinv_commands.proofs.LastLines.{ends-otherwise}
 use Rattle.rinv_commands.proofs.ToldNames.{script-named, system-named}
+use Rattle.rinv_commands.proofs.JsonTexts.{not-certificate}
 use Rattle.rinv_commands.proofs.OtherLines.{not-hold, not-refused, not-incomplete, not-no, not-refused_part, not-denial, not-gen_denial, no-section}
 
 -- complete generators are sound where there is no section
@@ -95,6 +97,23 @@ module _ (text : List ℕ) (h : EndsComplete text) where
   of-gen : (bytes : List ℕ) (ending : Ending) → IsGenAnswer bytes text ending → IsHeadline command.Gen bytes text
   of-gen bytes ending (AnswersTold.answered told denoted t) = found bytes ending told denoted t
   of-gen bytes ending (AnswersTold.refused line is printed) = absurd (not-refused text line h printed)
+
+  -- ---- certify
+
+  cut-short : (told : Told) → IsCutShort told text → ⊥
+  cut-short told (IsCutShort.in_phase c) = not-incomplete text (phase_of c.phase) (cause_of told c.why) h c.printed
+  cut-short told (IsCutShort.by_degrees d) = not-incomplete text phase.Certificate (cause.Degree d.x d.y) h d.printed
+  cut-short told (IsCutShort.by_length c for_it long) = not-incomplete text phase.Certificate cause.Length h long.printed
+
+  made : (bytes : List ℕ) (ending : Ending) (told : Told) → IsSystemText bytes told → IsMade told text ending → ⊥
+  made bytes Done told denoted t = not-certificate text t.certificate h t.printed.printed
+  made bytes Denied told denoted t = not-gen_denial told text (system-named bytes told denoted) h t
+  made bytes Refused told denoted t = t
+  made bytes Incomplete told denoted t = cut-short told t
+
+  of-certify : (bytes : List ℕ) (ending : Ending) → IsCertifyAnswer bytes text ending → ⊥
+  of-certify bytes ending (AnswersTold.answered told denoted t) = made bytes ending told denoted t
+  of-certify bytes ending (AnswersTold.refused line is printed) = not-refused text line h printed
 
   -- ---- rewrite and run
 
@@ -164,4 +183,5 @@ headline command.Check bytes text ending a h = of-check text h bytes ending a
 headline command.Laws bytes text ending a h = absurd (of-laws text h bytes ending a)
 headline command.Gen bytes text ending a h = of-gen text h bytes ending a
 headline command.Rewrite bytes text ending a h = of-rewrite text h bytes ending a
+headline command.Certify bytes text ending a h = absurd (of-certify text h bytes ending a)
 headline command.Run bytes text ending a h = of-run text h bytes ending a

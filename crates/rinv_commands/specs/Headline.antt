@@ -18,7 +18,7 @@ use Rattle.rinv_queries.specs.declared.outcome.Outcome.{Outcome}
 use Rattle.rinv_queries.specs.Outcomes.{AreAnswered}
 use Rattle.rinv_queries.specs.Lines.{rewrite_text, run_text}
 use Rattle.rinv_commands.specs.declared.command.Command.{Command}
-use Rattle.rinv_commands.specs.declared.command.Command.TheVariants.{Check, Laws, Gen, Rewrite, Run}
+use Rattle.rinv_commands.specs.declared.command.Command.TheVariants.{Check, Laws, Gen, Rewrite, Certify, Run}
 
 -- the text is made of lines, of which the last is `complete`
 pub record EndsComplete (text : List ℕ) : Type 0 where
@@ -51,12 +51,13 @@ pub record ShowsAnswered (form : Form) (bytes : List ℕ) (shown : List Query �
   pub answered : AreAnswered s cs script.queries outcomes
   pub printed : text ≡ shown script.queries outcomes
 
--- what the input of a command denotes, and what the text shows of it; `laws` never ends so
+-- what the input of a command denotes, and what the text shows of it; `laws` and `certify` never end so
 abbrev pub Shows : Command → List ℕ → List ℕ → System → List Fraction → Type 0
 Shows Check bytes text s cs = ShowsCertified bytes text s cs
 Shows Laws bytes text s cs = ⊥
 Shows Gen bytes text s cs = ShowsFound bytes text s cs
 Shows Rewrite bytes text s cs = ShowsAnswered Rewrites bytes (rewrite_text s cs) text s cs
+Shows Certify bytes text s cs = ⊥
 Shows Run bytes text s cs = ShowsAnswered Whole bytes (run_text s cs) text s cs
 
 -- The input denotes a system, and the text shows fractions. The laws hold: the polynomials of the system are a group that acts on affine

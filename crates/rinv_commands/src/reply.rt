@@ -19,6 +19,7 @@ pub fn answer(alloc: Global, command: Command, bytes: &[u8]) -> Result<(Vec<u8>,
         Command::Laws => laws::answer(alloc, bytes),
         Command::Gen => generators::answer(alloc, bytes),
         Command::Rewrite => rewrite::answer(alloc, bytes),
+        Command::Certify => rinv_certificates::answer(alloc, bytes),
         Command::Run => run::answer(alloc, bytes),
     }
 }

@@ -14,7 +14,7 @@ use Rattle.rinv_serve.specs.Headlines.{HeadlineHolds}
 use Rattle.rinv_serve.specs.Run.{IsRun, IsDue, Delivers}
 
 -- known bytes grow by one text
-grown : (before text t : List ℕ) (written written' : Option (List ℕ)) → written ≡ Some before → written' ≡ Some (before ++ text) → Appends written written' t → t ≡ text
+pub grown : (before text t : List ℕ) (written written' : Option (List ℕ)) → written ≡ Some before → written' ≡ Some (before ++ text) → Appends written written' t → t ≡ text
 grown before text t written written' old new a =
     let both = subst (λ w. Appends (Some before) w t) new (subst (λ w. Appends w written' t) old a) in
     sym (append_cancel_left before text t both)

@@ -76,8 +76,8 @@ pub fn generated(alloc: Global, system: &System) -> Result<Findings, Stopped>
     }
 }
 
-// The part of the work for generators.
-fn phase_of(phase: rinv_gens::Phase) -> Phase
+/// The part of the work for generators.
+pub fn phase_of(phase: rinv_gens::Phase) -> Phase
     ensures { result ≡ phase_of phase }
 {
     match phase {

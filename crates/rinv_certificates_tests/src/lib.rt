@@ -1,0 +1,5 @@
+//! Tests of the command that certifies: what it prints is accepted by the checker, or says why there is no certificate.
+#![tactic(auto)]
+
+#[cfg(test)]
+mod certifying;
