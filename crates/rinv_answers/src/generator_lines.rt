@@ -7,7 +7,7 @@ ghost use Rattle.rinv_defs.specs.System.{space_count};
 ghost use Rattle.rinv_defs.specs.SystemForm.{IsSystem};
 ghost use Rattle.rinv_frac.specs.Fractions.{IsStored};
 ghost use Rattle.rinv_answers.specs.GeneratorLines.{complete_line, gen_text, generator_lines, missed_text};
-ghost use Rattle.rinv_answers.specs.Pieces.{fraction_line};
+ghost use Rattle.rinv_lines.specs.Pieces.{fraction_line};
 
 use rinv_frac::{Frac, FracRing};
 use rinv_poly::{KPoly, PolyRing};

@@ -2,15 +2,10 @@
 #![tactic(auto)]
 
 pub mod commands;
-mod ending;
-mod fraction;
 mod generator_lines;
 mod incomplete;
 mod law_lines;
-mod stopped;
 
-pub use ending::Ending;
 pub use generator_lines::{complete_line, generator_text, missed_line, write_generators};
 pub use incomplete::{Cause, Phase, cause_of, incomplete_line};
 pub use law_lines::{fault_line, hold_line, refused_line};
-pub use stopped::Stopped;

@@ -9,12 +9,12 @@ use Rattle.rinv_text.specs.Told.{Told}
 use Rattle.rinv_system.specs.Texts.{IsSystemText}
 use Rattle.rinv_answers.specs.declared.incomplete.Phase.TheVariants as phase
 use Rattle.rinv_answers.specs.declared.incomplete.Cause.TheVariants as cause
-use Rattle.rinv_answers.specs.declared.ending.Ending.{Ending}
-use Rattle.rinv_answers.specs.declared.ending.Ending.TheVariants.{Done, Denied, Refused, Incomplete}
+use Rattle.rinv_lines.specs.declared.ending.Ending.{Ending}
+use Rattle.rinv_lines.specs.declared.ending.Ending.TheVariants.{Done, Denied, Refused, Incomplete}
 use Rattle.rinv_answers.specs.GeneratorLines.{generator_lines}
 use Rattle.rinv_answers.specs.Incomplete.{phase_of, cause_of}
 use Rattle.rinv_answers.specs.Told.{AnswersTold}
-use Rattle.rinv_answers.specs.Commands.Check.{IsCheckAnswer}
+use Rattle.rinv_verdict.specs.Check.{IsCheckAnswer}
 use Rattle.rinv_answers.specs.Commands.Laws.{IsTested, IsCut, IsLawsAnswer}
 use Rattle.rinv_answers.specs.Commands.Generators.{AreComplete, IsFound, IsPhaseCut, IsGenAnswer}
 use Rattle.rinv_script.specs.declared.form.Form.TheVariants.{Rewrites, Whole}

@@ -17,7 +17,7 @@ use Rattle.rinv_system.specs.Codes.{code_word}
 use Rattle.rinv_parts.specs.LawNames.{law_word, is_of_action}
 use Rattle.rinv_answers.specs.declared.incomplete.Phase.{Phase}
 use Rattle.rinv_answers.specs.declared.incomplete.Cause.{Cause}
-use Rattle.rinv_answers.specs.declared.incomplete.Cause.TheVariants.{Pairs, Steps, Degree}
+use Rattle.rinv_answers.specs.declared.incomplete.Cause.TheVariants.{Pairs, Steps, Degree, Length}
 use Rattle.rinv_answers.specs.Incomplete.{phase_word, cause_word, incomplete_line}
 use Rattle.rinv_answers.specs.LawLines.{hold_text, space_names, law_names, fault_text, refused_line_text}
 use Rattle.rinv_answers.specs.GeneratorLines.{complete_line, missed_text}
@@ -79,6 +79,7 @@ not-incomplete text p c h is = by c is
     by (Pairs n) e = ends-in (codes "pairs ") n e
     by (Steps n) e = ends-in (codes "steps ") n e
     by (Degree x y) e = ends-in (codes "degree " ++ decimal x ++ codes " ") y e
+    by Length e = ends-otherwise text front (codes "length\n") h (e ∙ append_assoc front (codes "length") (codes "\n")) refl
 
 nothing : {A : Type 0} (xs : List A) → length xs ≡ 0 → xs ≡ []
 nothing [] e = refl

@@ -1,7 +1,7 @@
 //! The headline. The function does nothing: its contract is a law of the definitions.
 
 ghost use Rattle.std.specs.Prelude.{ℕ, List};
-ghost use Rattle.rinv_answers.specs.declared.ending.Ending.{Ending};
+ghost use Rattle.rinv_lines.specs.declared.ending.Ending.{Ending};
 ghost use Rattle.rinv_commands.specs.declared.command.Command.{Command};
 ghost use Rattle.rinv_commands.specs.Answers.{IsAnswer};
 ghost use Rattle.rinv_commands.specs.Headline.{EndsComplete, IsHeadline};

@@ -4,8 +4,8 @@ ghost use Rattle.std.specs.Prelude.{◌<◌, ◌-◌, ◌^◌, length, IfOk};
 ghost use Rattle.rinv_commands.specs.Answers.{IsAnswer};
 
 use crate::command::Command;
-use rinv_answers::Ending;
-use rinv_answers::commands::{check, generators, laws};
+use rinv_answers::commands::{generators, laws};
+use rinv_lines::Ending;
 use rinv_queries::commands::{rewrite, run};
 use std::alloc::{AllocError as NoMemory, Global};
 
@@ -15,7 +15,7 @@ pub fn answer(alloc: Global, command: Command, bytes: &[u8]) -> Result<(Vec<u8>,
     ensures { IfOk result (λ a. IsAnswer command bytes.now a.0.items a.1) }
 {
     match command {
-        Command::Check => check::answer(alloc, bytes),
+        Command::Check => rinv_verdict::answer(alloc, bytes),
         Command::Laws => laws::answer(alloc, bytes),
         Command::Gen => generators::answer(alloc, bytes),
         Command::Rewrite => rewrite::answer(alloc, bytes),

@@ -6,11 +6,11 @@ use Rattle.std.proofs.Common.{ℕ, List, Bool, true, false, inl, inr}
 use Rattle.std.specs.Prelude.{if◌then◌else◌}
 use Rattle.rinv_script.specs.Queries.{Query, Script, need_generators}
 use Rattle.rinv_text.specs.Told.{Told}
-use Rattle.rinv_answers.specs.declared.ending.Ending.{Ending}
-use Rattle.rinv_answers.specs.declared.ending.Ending.TheVariants.{Done, Denied, Refused, Incomplete}
-use Rattle.rinv_answers.specs.declared.stopped.Stopped.{Stopped}
-use Rattle.rinv_answers.specs.declared.stopped.Stopped.TheVariants.{Answer, NoMemory}
-use Rattle.rinv_answers.specs.Stopped.{StopsSo}
+use Rattle.rinv_lines.specs.declared.ending.Ending.{Ending}
+use Rattle.rinv_lines.specs.declared.ending.Ending.TheVariants.{Done, Denied, Refused, Incomplete}
+use Rattle.rinv_lines.specs.declared.stopped.Stopped.{Stopped}
+use Rattle.rinv_lines.specs.declared.stopped.Stopped.TheVariants.{Answer, NoMemory}
+use Rattle.rinv_lines.specs.Stopped.{StopsSo}
 use Rattle.rinv_answers.specs.Commands.Laws.{IsUnlawful}
 use Rattle.rinv_answers.specs.Commands.Generators.{IsUnfound}
 use Rattle.rinv_queries.specs.Cuts.{IsUnanswered}

@@ -5,22 +5,18 @@ use Rattle.rinv_text.specs.Told.{Told}
 use Rattle.rinv_system.specs.LineTexts.{AreTaken}
 use Rattle.rinv_system.specs.Texts.{told_by}
 use Rattle.rinv_script.specs.declared.form.Form.{Form}
-use Rattle.rinv_script.specs.declared.words.ScriptWord.{ScriptWord}
 use Rattle.rinv_script.specs.Queries.{Script}
 use Rattle.rinv_script.specs.Scripts.{ScriptDraft, IsScriptRestTaken, blank_script}
 use Rattle.rinv_script.specs.ScriptTexts.{IsScriptLineTaken, IsScriptText}
 use Rattle.rinv_answers.specs.Budgets.{IsLimited}
 use Rattle.rinv_answers.proofs.TextLimits.{AreLow, blank-low, line-low, low-limited}
 
-rest-low : {d : ScriptDraft} (rest : List ℕ) (w : ScriptWord) (next : ScriptDraft) → AreLow d.system → IsScriptRestTaken d rest w next → AreLow next.system
-rest-low rest w next h (IsScriptRestTaken.a_definition f formal is new value) = h
-rest-low rest w next h (IsScriptRestTaken.a_word asks alone few) = h
-rest-low rest w next h (IsScriptRestTaken.a_fraction f formal asks few is) = h
-
 script-line-low : {d : ScriptDraft} (line : List ℕ) (next : ScriptDraft) → AreLow d.system → IsScriptLineTaken d line next → AreLow next.system
 script-line-low line next h (IsScriptLineTaken.empty e) = h
 script-line-low line next h (IsScriptLineTaken.of_system some first taken) = line-low line _ h taken
-script-line-low line next h (IsScriptLineTaken.of_script some none head whole taken) = rest-low _ _ _ h taken
+script-line-low line next h (IsScriptLineTaken.of_script some none head whole (IsScriptRestTaken.a_definition f formal is new value)) = h
+script-line-low line next h (IsScriptLineTaken.of_script some none head whole (IsScriptRestTaken.a_word asks alone few)) = h
+script-line-low line next h (IsScriptLineTaken.of_script some none head whole (IsScriptRestTaken.a_fraction f formal asks few is)) = h
 
 script-lines-low : {form : Form} {ls : List (List ℕ)} {d : ScriptDraft} → AreTaken IsScriptLineTaken (blank_script form) ls d → AreLow d.system
 script-lines-low AreTaken.none = blank-low

@@ -11,8 +11,8 @@ use Rattle.rinv_gens.specs.Found.{ArePieces}
 use Rattle.rinv_rewrite.specs.Prepared.{symbol_relations}
 use Rattle.rinv_rewrite.specs.Needed.{RewritingMeets}
 use Rattle.rinv_script.specs.Queries.{Query, for_laws, for_generators, whether_invariant, for_expression}
-use Rattle.rinv_answers.specs.declared.ending.Ending.{Ending}
-use Rattle.rinv_answers.specs.declared.ending.Ending.TheVariants.{Done, Denied, Refused, Incomplete}
+use Rattle.rinv_lines.specs.declared.ending.Ending.{Ending}
+use Rattle.rinv_lines.specs.declared.ending.Ending.TheVariants.{Done, Denied, Refused, Incomplete}
 use Rattle.rinv_answers.specs.declared.incomplete.Phase.TheVariants.{Query as AtQuery}
 use Rattle.rinv_answers.specs.declared.incomplete.Cause.TheVariants.{Degree}
 use Rattle.rinv_answers.specs.Budgets.{IsWithin}

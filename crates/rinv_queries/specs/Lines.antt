@@ -6,8 +6,8 @@ use Rattle.rinv_defs.specs.Invariant.{Fraction}
 use Rattle.rinv_defs.specs.Text.{poly_text, fraction_text}
 use Rattle.rinv_text.specs.Names.{symbols}
 use Rattle.rinv_script.specs.Queries.{Query, for_laws, for_generators, whether_invariant, for_expression, needs_generators, need_generators}
-use Rattle.rinv_answers.specs.declared.ending.Ending.{Ending}
-use Rattle.rinv_answers.specs.declared.ending.Ending.TheVariants.{Done, Denied}
+use Rattle.rinv_lines.specs.declared.ending.Ending.{Ending}
+use Rattle.rinv_lines.specs.declared.ending.Ending.TheVariants.{Done, Denied}
 use Rattle.rinv_answers.specs.GeneratorLines.{generator_lines, complete_line}
 use Rattle.rinv_queries.specs.declared.outcome.Outcome.{Outcome}
 use Rattle.rinv_queries.specs.declared.outcome.Outcome.TheVariants.{LawsHold, GeneratorsShown, Invariant, NotInvariant, Rewritten, NotRewritten, Vanishing}

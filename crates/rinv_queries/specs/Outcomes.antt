@@ -1,9 +1,8 @@
 -- What a query of a script is answered, and when that is true.
 --   denies          whether the outcome denies what was asked
 --   IsWritten       an invariant and its expression in the generators
---   IsVanishing     an invariant whose denominator vanishes on the section
 --   Answers         the outcome is the answer to the query
-use Rattle.std.specs.Prelude.{◌≡◌, List, [], Bool, true, false}
+use Rattle.std.specs.Prelude.{List, Bool, true, false}
 use Rattle.std.specs.List.{AllZip}
 use Rattle.rinv_defs.specs.System.{System, Poly}
 use Rattle.rinv_defs.specs.Laws.{AllLawsHold}
@@ -11,7 +10,7 @@ use Rattle.rinv_defs.specs.Invariant.{Fraction, IsInvariant}
 use Rattle.rinv_defs.specs.Generators.{Expression, Denotes}
 use Rattle.rinv_defs.specs.Extended.{Vanishes}
 use Rattle.rinv_change.specs.Changes.{IsStray}
-use Rattle.rinv_rewrite.specs.Taken.{DenominatorVanishes}
+use Rattle.rinv_rewrite.specs.Taken.{IsVanishing}
 use Rattle.rinv_script.specs.Queries.{Query, for_laws, for_generators, whether_invariant, for_expression}
 use Rattle.rinv_queries.specs.declared.outcome.Outcome.{Outcome}
 use Rattle.rinv_queries.specs.declared.outcome.Outcome.TheVariants.{LawsHold, GeneratorsShown, Invariant, NotInvariant, Rewritten, NotRewritten, Vanishing}
@@ -31,12 +30,6 @@ pub record IsWritten (s : System) (cs : List Fraction) (f : Fraction) (e : Expre
   pub is_invariant : IsInvariant s f
   pub lasts : ¬ (Vanishes s f.1)
   pub denotes : Denotes s.p cs e f
-
--- there is a section, f is invariant, and its denominator vanishes on the section
-pub record IsVanishing (s : System) (f : Fraction) : Type 0 where
-  pub on_section : ¬ (s.section ≡ [])
-  pub is_invariant : IsInvariant s f
-  pub vanishes : DenominatorVanishes s f
 
 -- The outcome is the answer to the query, with cs for the generators. A fraction is not invariant, or its denominator vanishes, or neither:
 -- so each outcome comes exactly where it is true.

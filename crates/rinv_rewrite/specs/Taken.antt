@@ -7,7 +7,8 @@
 --   LeavesInZ              what the division of a polynomial, put in Z, leaves
 --   IsTaken                the expression of an invariant
 --   DenominatorVanishes    there is no such monomial
-use Rattle.std.specs.Prelude.{ℕ, List, IsTrue}
+--   IsVanishing            an invariant of which that holds
+use Rattle.std.specs.Prelude.{◌≡◌, ℕ, List, [], IsTrue}
 use Rattle.std.specs.Ordering.{is_ge}
 use Rattle.rinv_algebra.specs.Ring.{IsSame}
 use Rattle.rinv_algebra.specs.Residue.{residue_ops}
@@ -15,7 +16,7 @@ use Rattle.rinv_algebra.specs.Order.{grevlex}
 use Rattle.rinv_algebra.specs.Polynomial.{poly_ops, coefficient}
 use Rattle.rinv_groebner.specs.Division.{Step, IsDivision}
 use Rattle.rinv_defs.specs.System.{System, Poly}
-use Rattle.rinv_defs.specs.Invariant.{Fraction}
+use Rattle.rinv_defs.specs.Invariant.{Fraction, IsInvariant}
 use Rattle.rinv_defs.specs.Extended.{Vanishes}
 use Rattle.rinv_defs.specs.Generators.{Expression, rational_ops, value_at}
 use Rattle.rinv_soundness.specs.Rewriting.{SymbolPoly, SymbolRelation, in_z, IsRestBy}
@@ -64,3 +65,9 @@ pub record IsTaken (s : System) (cs : List Fraction) (qs : List SymbolRelation) 
 -- the denominator of f vanishes on the section
 abbrev pub DenominatorVanishes : System → Fraction → Type 0
 DenominatorVanishes s f = ∥ Vanishes s f.1 ∥₁
+
+-- there is a section, f is invariant, and its denominator vanishes on the section
+pub record IsVanishing (s : System) (f : Fraction) : Type 0 where
+  pub on_section : ¬ (s.section ≡ [])
+  pub is_invariant : IsInvariant s f
+  pub vanishes : DenominatorVanishes s f

@@ -4,7 +4,7 @@ use Rattle.std.proofs.lemmas.List.{append_cancel_left}
 use Rattle.std.specs.declared.alloc.Global.{Global}
 use Rattle.std.specs.Io.KnownBytes.{Appends}
 use Rattle.rinv_defs.specs.Text.{too_long_text}
-use Rattle.rinv_answers.specs.declared.ending.Ending.{Ending}
+use Rattle.rinv_lines.specs.declared.ending.Ending.{Ending}
 use Rattle.rinv_commands.specs.Headline.{EndsComplete}
 use Rattle.rinv_commands.proofs.Headlines.{headline}
 use Rattle.rinv_commands.proofs.LastLines.{ends-otherwise, not-empty}

@@ -11,8 +11,8 @@ use Rattle.rinv_buch.specs.declared.kinds.Why.{Why}
 use Rattle.rinv_coefficients.specs.Coefficients.{AreGenerators}
 use Rattle.rinv_gens.specs.declared.kinds.Phase.{Phase}
 use Rattle.rinv_gens.specs.Halts.{HaltsIn, IsMiss}
-use Rattle.rinv_answers.specs.declared.ending.Ending.{Ending}
-use Rattle.rinv_answers.specs.declared.ending.Ending.TheVariants.{Done, Denied, Refused, Incomplete}
+use Rattle.rinv_lines.specs.declared.ending.Ending.{Ending}
+use Rattle.rinv_lines.specs.declared.ending.Ending.TheVariants.{Done, Denied, Refused, Incomplete}
 use Rattle.rinv_answers.specs.Budgets.{IsWithin}
 use Rattle.rinv_answers.specs.Commands.Laws.{IsDenial}
 use Rattle.rinv_answers.specs.GeneratorLines.{gen_text, missed_text}

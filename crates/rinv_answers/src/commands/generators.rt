@@ -5,15 +5,14 @@ ghost use Rattle.rinv_defs.specs.SystemForm.{IsSystem};
 ghost use Rattle.rinv_gens.specs.Found.{ArePieces};
 ghost use Rattle.rinv_answers.specs.Budgets.{IsLimited};
 ghost use Rattle.rinv_answers.specs.Incomplete.{phase_of};
-ghost use Rattle.rinv_answers.specs.Stopped.{StopsSo};
+ghost use Rattle.rinv_lines.specs.Stopped.{StopsSo};
 ghost use Rattle.rinv_answers.specs.Commands.Generators.{IsFound, IsGenAnswer, IsUnfound};
 
-use crate::ending::Ending;
 use crate::generator_lines::{generator_text, missed_line};
 use crate::incomplete::{Phase, cause_of, incomplete_line};
 use crate::law_lines::{fault_line, refused_line};
-use crate::stopped::Stopped;
 use rinv_gens::{Findings, GenStop, pieces};
+use rinv_lines::{Ending, Stopped};
 use rinv_system::{SystemStop, read_system};
 use rinv_text::System;
 use std::alloc::{AllocError as NoMemory, Global};

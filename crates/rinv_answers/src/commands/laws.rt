@@ -5,16 +5,15 @@ ghost use Rattle.rinv_defs.specs.SystemForm.{IsSystem};
 ghost use Rattle.rinv_defs.specs.Laws.{AllLawsHold};
 ghost use Rattle.rinv_laws.specs.Group.{IsGroupBasis};
 ghost use Rattle.rinv_answers.specs.Budgets.{budget_of, IsLimited, IsWithin};
-ghost use Rattle.rinv_answers.specs.Stopped.{StopsSo};
+ghost use Rattle.rinv_lines.specs.Stopped.{StopsSo};
 ghost use Rattle.rinv_answers.specs.Commands.Laws.{IsLawsAnswer, IsTested, IsUnlawful};
 
-use crate::ending::Ending;
 use crate::incomplete::{Cause, Phase, cause_of, incomplete_line};
 use crate::law_lines::{fault_line, hold_line, refused_line};
-use crate::stopped::Stopped;
 use rinv_buch::Stop;
 use rinv_div::Budget;
 use rinv_laws::{GroupBasis, LawStop, group_basis, laws_hold, test_laws};
+use rinv_lines::{Ending, Stopped};
 use rinv_system::{SystemStop, read_system};
 use rinv_text::System;
 use std::alloc::{AllocError as NoMemory, Global};

@@ -6,8 +6,8 @@ use Rattle.rinv_defs.specs.Invariant.{Fraction}
 use Rattle.rinv_text.specs.Told.{Told}
 use Rattle.rinv_script.specs.declared.form.Form.TheVariants.{Whole}
 use Rattle.rinv_script.specs.Queries.{Script, need_generators}
-use Rattle.rinv_answers.specs.declared.ending.Ending.{Ending}
-use Rattle.rinv_answers.specs.declared.ending.Ending.TheVariants.{Done, Denied, Refused, Incomplete}
+use Rattle.rinv_lines.specs.declared.ending.Ending.{Ending}
+use Rattle.rinv_lines.specs.declared.ending.Ending.TheVariants.{Done, Denied, Refused, Incomplete}
 use Rattle.rinv_answers.specs.Commands.Laws.{IsDenial, IsCut}
 use Rattle.rinv_answers.specs.Commands.Generators.{AreComplete, IsGenDenial, IsPhaseCut}
 use Rattle.rinv_queries.specs.declared.outcome.Outcome.{Outcome}

@@ -4,7 +4,7 @@ use Rattle.rinv_script.specs.declared.form.Form.{Form}
 use Rattle.rinv_text.specs.Told.{Told}
 use Rattle.rinv_script.specs.Queries.{Query, Script}
 use Rattle.rinv_script.specs.ScriptTexts.{IsScriptText, IsRefusedScript}
-use Rattle.rinv_answers.specs.declared.ending.Ending.{Ending}
+use Rattle.rinv_lines.specs.declared.ending.Ending.{Ending}
 use Rattle.rinv_answers.specs.Told.{AnswersTold}
 
 -- what is asked of a system

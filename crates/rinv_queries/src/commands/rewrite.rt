@@ -3,13 +3,14 @@
 ghost use Rattle.std.specs.Prelude.{◌<◌, ◌-◌, ◌^◌, length, map, IfOk, IfErr};
 ghost use Rattle.rinv_script.specs.Stored.{IsStoredScript, query_of};
 ghost use Rattle.rinv_answers.specs.Budgets.{IsLimited};
-ghost use Rattle.rinv_answers.specs.Stopped.{StopsSo};
+ghost use Rattle.rinv_lines.specs.Stopped.{StopsSo};
 ghost use Rattle.rinv_queries.specs.Commands.Script.{asking};
 ghost use Rattle.rinv_queries.specs.Commands.Rewrite.{IsRewriteAnswer, IsRewritten};
 
 use crate::answering::{Page, answered, ending_of};
 use crate::known::known_of;
-use rinv_answers::{Ending, Stopped, complete_line, refused_line};
+use rinv_answers::{complete_line, refused_line};
+use rinv_lines::{Ending, Stopped};
 use rinv_script::{Form, Query, Script, read_script};
 use rinv_system::SystemStop;
 use rinv_text::System;

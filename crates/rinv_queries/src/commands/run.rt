@@ -3,7 +3,7 @@
 ghost use Rattle.std.specs.Prelude.{◌≡◌, ◌<◌, ◌-◌, ◌^◌, length, map, IfOk, IfErr};
 ghost use Rattle.rinv_script.specs.Stored.{IsStoredScript, query_of};
 ghost use Rattle.rinv_answers.specs.Budgets.{IsLimited};
-ghost use Rattle.rinv_answers.specs.Stopped.{StopsSo};
+ghost use Rattle.rinv_lines.specs.Stopped.{StopsSo};
 ghost use Rattle.rinv_queries.specs.Lines.{last_line_of};
 ghost use Rattle.rinv_queries.specs.Commands.Script.{asking};
 ghost use Rattle.rinv_queries.specs.Commands.Run.{IsRunAnswer, IsScripted};
@@ -11,7 +11,8 @@ ghost use Rattle.rinv_queries.specs.Commands.Run.{IsRunAnswer, IsScripted};
 use crate::answering::{Page, answered, ending_of};
 use crate::known::known_of;
 use crate::needs::need_generators;
-use rinv_answers::{Ending, Stopped, complete_line, refused_line};
+use rinv_answers::{complete_line, refused_line};
+use rinv_lines::{Ending, Stopped};
 use rinv_script::{Form, Query, Script, read_script};
 use rinv_system::SystemStop;
 use rinv_text::System;

@@ -2,8 +2,8 @@ use Rattle.std.proofs.Common.{◌+◌, take, ◌∙◌, ◌++◌, List, ℕ, ap,
 use Rattle.rinv_defs.specs.Invariant.{Fraction}
 use Rattle.rinv_defs.specs.Text.{fraction_lines}
 use Rattle.rinv_text.proofs.Joined.{append-step}
-use Rattle.rinv_answers.specs.Pieces.{fraction_line}
-use Rattle.rinv_answers.proofs.Lines.{fraction_lines-nil, fraction_lines-take_more}
+use Rattle.rinv_lines.specs.Pieces.{fraction_line}
+use Rattle.rinv_lines.proofs.Lines.{fraction_lines-nil, fraction_lines-take_more}
 use Rattle.rinv_answers.proofs.generator_lines.write_generators.Goals as goal
 
 pub lines-init : goal.lines-init

@@ -10,7 +10,7 @@ use Rattle.rinv_text.specs.Printed.{AppendsFraction}
 use Rattle.rinv_text.specs.Told.{Told}
 use Rattle.rinv_text.proofs.Lengths.{lengths-from_normal}
 use Rattle.rinv_text.proofs.SystemParts.{parts-of}
-use Rattle.rinv_answers.proofs.Lines.{fraction-line}
+use Rattle.rinv_lines.proofs.Lines.{fraction-line}
 use Rattle.rinv_answers.proofs.generator_lines.write_line.Goals as goal
 
 -- the text of a stored fraction, over the system's field and names

@@ -17,3 +17,6 @@ returns-in-Err-clause-degree c =
     meet-weaker (ChangeMeets c.args.system.now.system c.group.result.now.basis c.args.f.now) (QueryMeets c.args.system.now (whether_invariant c.args.f.now))
     (λ x y h. record { group = c.group.result.now.basis; reduced = c.group.result.now.reduced.items; basis = known.basis; within = known.within; meets = h })
     c.in-Err.fault c.in-Err.ensures.degree
+
+pub test_invariant-requires-clause-group : goal.test_invariant-requires-clause-group
+test_invariant-requires-clause-group c = (c.group.ensures c.args.system.now c.requires.known).basis

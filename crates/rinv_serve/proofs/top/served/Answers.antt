@@ -1,5 +1,5 @@
 use Rattle.std.proofs.Common.{◌≡◌, ◌∙◌, Err, codes, refl, sym, ap, inr}
-use Rattle.rinv_answers.specs.declared.ending.Ending.TheVariants as ends
+use Rattle.rinv_lines.specs.declared.ending.Ending.TheVariants as ends
 use Rattle.rinv_serve.specs.declared.status.Status.TheVariants.{ReadFault, NoMemory}
 use Rattle.rinv_serve.proofs.Runs.{run-sent}
 use Rattle.rinv_serve.proofs.top.served.Goals as goal

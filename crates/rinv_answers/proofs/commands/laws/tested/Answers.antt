@@ -1,7 +1,7 @@
 use Rattle.std.proofs.Common.{ℕ, List}
 use Rattle.rinv_text.specs.Told.{Told}
-use Rattle.rinv_answers.specs.declared.ending.Ending.{Ending}
-use Rattle.rinv_answers.specs.declared.ending.Ending.TheVariants.{Done, Denied, Refused, Incomplete}
+use Rattle.rinv_lines.specs.declared.ending.Ending.{Ending}
+use Rattle.rinv_lines.specs.declared.ending.Ending.TheVariants.{Done, Denied, Refused, Incomplete}
 use Rattle.rinv_answers.specs.Commands.Laws.{IsTested, IsUnlawful}
 use Rattle.rinv_answers.proofs.commands.laws.tested.Goals as goal
 

@@ -1,0 +1,1 @@
+use Rattle.rinv_expressions.proofs.expressing.answered.Goals as goal

@@ -1,0 +1,2 @@
+--   Check    what the command answers
+pub mod Check
