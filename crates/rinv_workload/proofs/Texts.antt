@@ -2,9 +2,10 @@
 --   begins           the lines that come first
 --   more             a query more
 --   all              all of them
-use Rattle.std.proofs.Common.{◌≡◌, ℕ, ◌+◌, List, [], ◌∷◌, ◌++◌, map, append_assoc, append-nil, refl, sym, ap, ◌∙◌, Bool, true, false, ◌%◌, ◌==◌}
+use Rattle.std.proofs.Common.{◌≡◌, ℕ, ◌+◌, List, [], ◌∷◌, ◌++◌, map, append_assoc, append-nil, refl, sym, ap, ◌∙◌, Bool, true, false, ◌%◌, ◌==◌, arith}
 use Rattle.std.specs.Prelude.{codes, decimal, flat_map}
 use Rattle.std.specs.List.{range_with_len}
+use Rattle.std.proofs.lemmas.Bool.Decides.{nat_tests}
 use Rattle.std.proofs.lemmas.List.{flat_map_more}
 use Rattle.std.proofs.lemmas.List.FromFn.{map-range_with_len_more}
 use Rattle.std.proofs.lemmas.Grind.{flat_map-append}
@@ -47,6 +48,10 @@ other_regrouped w q c h e s d t n = simp append_assoc
 abbrev written : Bool → List ℕ → List ℕ → List ℕ
 written true c e = codes "rewrite ((q+" ++ (c ++ (codes ")^" ++ (e ++ (codes "+x)/(q+" ++ (c ++ codes "+1)\n")))))
 written false c e = codes "rewrite (q+" ++ (c ++ (codes ")^" ++ (e ++ (codes "/(q+" ++ (c ++ codes "+1)\n")))))
+
+-- what is no third
+pub no-third : (i : ℕ) → (i % 3 ≡ 0 → ⊥) → (i % 3 == 0) ≡ false
+no-third i h = grind (arith, nat_tests, h)
 
 module _ (k i : ℕ) (old made new : List ℕ) where
   line-of : (third : Bool) → (i % 3 == 0) ≡ third → written third (decimal (constant k i)) (decimal (exponent i)) ≡ query_line k i ++ codes "\n"
