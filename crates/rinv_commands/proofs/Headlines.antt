@@ -1,5 +1,5 @@
 -- Where an answer ends with the line `complete`, the headline holds of it.
-use Rattle.std.proofs.Common.{◌≡◌, ℕ, List, [], ◌++◌, Bool, true, false, inl, inr, refl, subst, codes}
+use Rattle.std.proofs.Common.{◌≡◌, ℕ, List, [], ◌++◌, Bool, true, false, inl, inr, refl, subst, codes, length}
 use Rattle.rinv_defs.specs.System.{System}
 use Rattle.rinv_defs.specs.Invariant.{Fraction}
 use Rattle.rinv_defs.specs.Generators.{IsSound}
@@ -25,6 +25,9 @@ use Rattle.rinv_queries.specs.Cuts.{IsQueryCut}
 use Rattle.rinv_certificates.specs.Commands.Certify.{IsCertifyAnswer, IsCutShort, IsMade}
 use Rattle.rinv_queries.specs.Commands.Rewrite.{IsRewriteAnswer, IsRewritten, ShowsExpressions}
 use Rattle.rinv_queries.specs.Commands.Run.{AnswersQueries, AreCompleteIf, IsCutIf, IsDenialIf, IsRunAnswer, IsScripted}
+use Rattle.rinv_workload.specs.Workload.{workload_text}
+use Rattle.rinv_bench.specs.Summary.{summary_lines}
+use Rattle.rinv_bench.specs.Commands.Bench.{IsBenchAnswer, IsMeasured}
 use Rattle.rinv_commands.specs.declared.command.Command.{Command}
 use Rattle.rinv_commands.specs.declared.command.Command.TheVariants as command
 use Rattle.rinv_commands.specs.Answers.{IsAnswer}
@@ -178,6 +181,26 @@ module _ (text : List ℕ) (h : EndsComplete text) where
   of-run bytes ending (AnswersTold.answered script denoted t) = scripted bytes ending script denoted t
   of-run bytes ending (AnswersTold.refused line is printed) = absurd (not-refused text line h printed)
 
+  -- ---- bench
+
+  measured : (k : ℕ) (bytes : List ℕ) (ending : Ending) (script : Script) → IsScriptText Whole (workload_text k) script → IsMeasured k script text ending → IsHeadline (command.Bench k) bytes text
+  measured k bytes Done script denoted t =
+      let s = script.told.system in
+      record {
+        system = s;
+        fractions = t.fractions;
+        sound = complete-sound s t.fractions (no-section text (summary_lines k s (length t.fractions) t.outcomes) s h t.printed) t.complete;
+        shown = record { script = script; denoted = denoted; system = refl; outcomes = t.outcomes; answered = t.answered; printed = t.printed };
+      }
+  measured k bytes Denied script denoted t = absurd (not-gen_denial script.told text (script-named Whole (workload_text k) script denoted) h t)
+  measured k bytes Refused script denoted t = absurd t
+  measured k bytes Incomplete script denoted (inl c) = absurd (phase-cut script.told c)
+  measured k bytes Incomplete script denoted (inr c) = absurd (query-cut script.told script.queries c)
+
+  of-bench : (k : ℕ) (bytes : List ℕ) (ending : Ending) → IsBenchAnswer k text ending → IsHeadline (command.Bench k) bytes text
+  of-bench k bytes ending (AnswersTold.answered script denoted t) = measured k bytes ending script denoted t
+  of-bench k bytes ending (AnswersTold.refused line is printed) = absurd (not-refused text line h printed)
+
 pub headline : (asked : Command) (bytes text : List ℕ) (ending : Ending) → IsAnswer asked bytes text ending → EndsComplete text → IsHeadline asked bytes text
 headline command.Check bytes text ending a h = of-check text h bytes ending a
 headline command.Laws bytes text ending a h = absurd (of-laws text h bytes ending a)
@@ -185,3 +208,4 @@ headline command.Gen bytes text ending a h = of-gen text h bytes ending a
 headline command.Rewrite bytes text ending a h = of-rewrite text h bytes ending a
 headline command.Certify bytes text ending a h = absurd (of-certify text h bytes ending a)
 headline command.Run bytes text ending a h = of-run text h bytes ending a
+headline (command.Bench k) bytes text ending a h = of-bench text h k bytes ending a

@@ -1,5 +1,5 @@
 -- The headline: what the last line `complete` says.
-use Rattle.std.specs.Prelude.{◌≡◌, ℕ, List, ◌∷◌, [], ◌++◌, codes}
+use Rattle.std.specs.Prelude.{◌≡◌, ℕ, List, ◌∷◌, [], ◌++◌, length, codes}
 use Rattle.rinv_defs.specs.System.{System}
 use Rattle.rinv_defs.specs.Invariant.{Fraction}
 use Rattle.rinv_defs.specs.Generators.{IsSound}
@@ -17,8 +17,10 @@ use Rattle.rinv_answers.specs.GeneratorLines.{gen_text}
 use Rattle.rinv_queries.specs.declared.outcome.Outcome.{Outcome}
 use Rattle.rinv_queries.specs.Outcomes.{AreAnswered}
 use Rattle.rinv_queries.specs.Lines.{rewrite_text, run_text}
+use Rattle.rinv_workload.specs.Workload.{workload_text}
+use Rattle.rinv_bench.specs.Summary.{summary_text}
 use Rattle.rinv_commands.specs.declared.command.Command.{Command}
-use Rattle.rinv_commands.specs.declared.command.Command.TheVariants.{Check, Laws, Gen, Rewrite, Certify, Run}
+use Rattle.rinv_commands.specs.declared.command.Command.TheVariants.{Check, Laws, Gen, Rewrite, Certify, Run, Bench}
 
 -- the text is made of lines, of which the last is `complete`
 pub record EndsComplete (text : List ℕ) : Type 0 where
@@ -51,7 +53,8 @@ pub record ShowsAnswered (form : Form) (bytes : List ℕ) (shown : List Query �
   pub answered : AreAnswered s cs script.queries outcomes
   pub printed : text ≡ shown script.queries outcomes
 
--- what the input of a command denotes, and what the text shows of it; `laws` and `certify` never end so
+-- what the input of a command denotes, and what the text shows of it; `laws` and `certify` never end so, and `bench` has the script of the
+-- workload
 abbrev pub Shows : Command → List ℕ → List ℕ → System → List Fraction → Type 0
 Shows Check bytes text s cs = ShowsCertified bytes text s cs
 Shows Laws bytes text s cs = ⊥
@@ -59,6 +62,7 @@ Shows Gen bytes text s cs = ShowsFound bytes text s cs
 Shows Rewrite bytes text s cs = ShowsAnswered Rewrites bytes (rewrite_text s cs) text s cs
 Shows Certify bytes text s cs = ⊥
 Shows Run bytes text s cs = ShowsAnswered Whole bytes (run_text s cs) text s cs
+Shows (Bench k) bytes text s cs = ShowsAnswered Whole (workload_text k) (λ queries. summary_text k s (length cs)) text s cs
 
 -- The input denotes a system, and the text shows fractions. The laws hold: the polynomials of the system are a group that acts on affine
 -- space. Each of the fractions is invariant under it, and each invariant fraction, of any degree, is a rational expression in them.

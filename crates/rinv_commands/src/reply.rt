@@ -2,16 +2,19 @@
 
 ghost use Rattle.std.specs.Prelude.{◌<◌, ◌-◌, ◌^◌, length, IfOk};
 ghost use Rattle.rinv_commands.specs.Answers.{IsAnswer};
+ghost use Rattle.rinv_commands.specs.Inputs.{IsWithinRange};
 
 use crate::command::Command;
 use rinv_answers::commands::{generators, laws};
+use rinv_bench::commands::bench;
 use rinv_lines::Ending;
 use rinv_queries::commands::{rewrite, run};
 use std::alloc::{AllocError as NoMemory, Global};
 
 /// The text that the command answers to these bytes, and how it ends.
 pub fn answer(alloc: Global, command: Command, bytes: &[u8]) -> Result<(Vec<u8>, Ending), NoMemory>
-    requires { length bytes.now < 2 ^ 32 - 1 }
+    requires bytes { length bytes.now < 2 ^ 32 - 1 }
+    requires numbers { IsWithinRange command }
     ensures { IfOk result (λ a. IsAnswer command bytes.now a.0.items a.1) }
 {
     match command {
@@ -21,5 +24,6 @@ pub fn answer(alloc: Global, command: Command, bytes: &[u8]) -> Result<(Vec<u8>,
         Command::Rewrite => rewrite::answer(alloc, bytes),
         Command::Certify => rinv_certificates::answer(alloc, bytes),
         Command::Run => run::answer(alloc, bytes),
+        Command::Bench(k) => bench::answer(alloc, k),
     }
 }

@@ -21,7 +21,7 @@ use rinv_text::System;
 use std::alloc::{AllocError as NoMemory, Global};
 
 /// What is known of a system whose queries are answered.
-pub(crate) enum Known {
+pub enum Known {
     /// Its laws hold: the basis of the group's ideal.
     Lawful(GroupBasis),
     /// All that is found on the way to its generators, and their relations made ready for rewriting.
@@ -39,7 +39,7 @@ impl Drop for Known {
 
 impl Known {
     /// How many generators are known.
-    pub(crate) fn count(&self) -> usize
+    pub fn count(&self) -> usize
         ensures { result ≡ length (fractions_of self.now) }
     {
         match self {
@@ -78,7 +78,7 @@ impl Known {
 
 /// What is known of a system: that its laws hold, or, where they are needed, its generators. Where this is not so, the stop has what is
 /// printed.
-pub(crate) fn known_of(alloc: Global, system: &System, needed: bool) -> Result<Known, Stopped>
+pub fn known_of(alloc: Global, system: &System, needed: bool) -> Result<Known, Stopped>
     requires system { IsSystem system.now.system }
     requires limits { IsLimited system.now }
     ensures known { IfOk result (IsKnown system.now) }

@@ -40,7 +40,7 @@ pub(crate) fn variables_of(
 }
 
 /// Appends a word, a number and what stands behind it.
-pub(crate) fn write_head(
+pub fn write_head(
     alloc: Global,
     word: &str,
     number: usize,
@@ -71,8 +71,8 @@ fn write_rest(
     Ok(())
 }
 
-// Appends an expression, and the end of its line.
-fn write_expression(
+/// Appends an expression, and the end of its line.
+pub fn write_expression(
     alloc: Global,
     system: &System,
     names: &Names,

@@ -27,7 +27,7 @@ use std::alloc::Global;
 
 /// The outcome of a query, by what is known of its system. Degree comes only where the test of an invariant, or rewriting, meets these
 /// degrees.
-pub(crate) fn outcome(
+pub fn outcome(
     alloc: Global,
     system: &System,
     known: &Known,

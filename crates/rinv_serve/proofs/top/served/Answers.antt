@@ -8,7 +8,7 @@ pub returns-in-Err-TooLong-clause-run : goal.returns-in-Err-TooLong-clause-run
 returns-in-Err-TooLong-clause-run g c =
     let many = c.in-Err-TooLong.ensures.too_long (ap Err c.in-Err-TooLong.field-0-is) in
     run-sent c.args.words.now _ _ _ _ _ _ (codes "refused input too long\n") ends.Refused _
-    (record { asked = c.in-Some.command; words_ask = sym c.command_of.ensures ∙ c.in-Some.is; defined = inr (record { bytes = many.0; taken = many.1; many = many.2; refused = refl; printed = refl }) })
+    (record { asked = c.in-Some.command; words_ask = sym c.command_of.ensures ∙ c.in-Some.is; defined = inr (record { reading = many.0; bytes = many.1.0; taken = many.1.1; many = many.1.2; refused = refl; printed = refl }) })
     c.send-in-Err-TooLong.ensures
 
 -- the status is another: a fault in its place is refused at once, where a search would look for its cause

@@ -1,0 +1,4 @@
+pub mod Summaries
+pub mod Counts
+pub mod Outcomes
+pub mod Measures

@@ -1,0 +1,2 @@
+-- What the command answers: the text, by how it ends.
+pub mod Bench

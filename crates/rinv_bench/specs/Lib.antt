@@ -1,0 +1,5 @@
+-- From a number to the text of its answer and the ending:
+--   Summary     numbers of outcomes, the last expression, and the text
+--   Commands    what the command answers
+pub mod Summary
+pub mod Commands

@@ -1,0 +1,3 @@
+//! What the command answers.
+
+pub mod bench;
