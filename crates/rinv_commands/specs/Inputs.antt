@@ -1,7 +1,7 @@
 -- What a command is given.
 use Rattle.std.specs.Prelude.{ℕ, ◌≤◌, Bool, true, false, ⊤}
 use Rattle.rinv_commands.specs.declared.command.Command.{Command}
-use Rattle.rinv_commands.specs.declared.command.Command.TheVariants.{Check, Laws, Gen, Rewrite, Run, Bench}
+use Rattle.rinv_commands.specs.declared.command.Command.TheVariants.{Check, Laws, Gen, Rewrite, Certify, Run, Bench}
 
 -- whether it has an input: `bench` alone has none
 abbrev pub reads : Command → Bool
@@ -9,6 +9,7 @@ reads Check = true
 reads Laws = true
 reads Gen = true
 reads Rewrite = true
+reads Certify = true
 reads Run = true
 reads (Bench k) = false
 
@@ -22,5 +23,6 @@ IsWithinRange Check = ⊤
 IsWithinRange Laws = ⊤
 IsWithinRange Gen = ⊤
 IsWithinRange Rewrite = ⊤
+IsWithinRange Certify = ⊤
 IsWithinRange Run = ⊤
 IsWithinRange (Bench k) = (1 ≤ k) × (k ≤ max_bench)

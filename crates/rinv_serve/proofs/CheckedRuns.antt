@@ -9,8 +9,9 @@ use Rattle.rinv_certificates.specs.Commands.Certify.{IsCertifyAnswer}
 use Rattle.rinv_commands.specs.declared.command.Command.{Command}
 use Rattle.rinv_commands.specs.declared.command.Command.TheVariants.{Certify, Check}
 use Rattle.rinv_commands.specs.Answers.{IsAnswer}
+use Rattle.rinv_commands.specs.Inputs.{reads}
 use Rattle.rinv_commands.proofs.Acceptance.{short, accepted}
-use Rattle.rinv_serve.specs.Run.{IsDue, Delivers, AnswersLong, max_input}
+use Rattle.rinv_serve.specs.Run.{IsDue, Delivers, AnswersLong, LeavesSo, max_input}
 use Rattle.rinv_serve.specs.Words.{command_of}
 use Rattle.rinv_serve.specs.Accepted.{Certifies, Checks}
 use Rattle.rinv_serve.proofs.RunHeadlines.{grown}
@@ -53,7 +54,7 @@ check-due : (bytes text : List ℕ) → IsCertifyAnswer bytes text ends.Done →
     → command_of words ≡ Some Check → IsDue words (Some text) left' shown ending → ending ≡ ends.Done
 check-due bytes text certified words left' shown ending asks d = elim d.defined [
   | inl all ↦ accepted bytes text shown ending certified
-      (subst (λ (b : List ℕ). IsAnswer Check b shown ending) (all-read text all.bytes left' all.taken all.end)
+      (subst (λ (b : List ℕ). IsAnswer Check b shown ending) (all-read text all.bytes left' all.taken (subst (λ (c : Command). LeavesSo (reads c) (Some text) left' all.bytes) (one-command words d.asked Check d.words_ask asks) all.end))
       (subst (λ (c : Command). IsAnswer c all.bytes shown ending) (one-command words d.asked Check d.words_ask asks) all.answer))
   | inr long ↦ absurd (too-many long)
 ]

@@ -10,7 +10,7 @@ use Rattle.rinv_algebra.proofs.Same.{both}
 use Rattle.rinv_defs.specs.Names.{is_digit}
 use Rattle.rinv_text.specs.Tokens.{number_of}
 use Rattle.rinv_commands.specs.declared.command.Command.{Command}
-use Rattle.rinv_commands.specs.declared.command.Command.TheVariants.{Check, Laws, Gen, Rewrite, Run, Bench}
+use Rattle.rinv_commands.specs.declared.command.Command.TheVariants.{Check, Laws, Gen, Rewrite, Certify, Run, Bench}
 use Rattle.rinv_commands.specs.Inputs.{IsWithinRange, max_bench, reads}
 use Rattle.rinv_serve.specs.Words.{command_named, is_count, bench_number, bench_of, command_of}
 
@@ -50,7 +50,7 @@ either false x o h rest = rest
 named-in-range : (w : List ℕ) → IfSome (command_named w) IsWithinRange
 named-in-range w =
     either (bytes_eq w (codes "check")) Check _ tt (either (bytes_eq w (codes "laws")) Laws _ tt (either (bytes_eq w (codes "gen")) Gen _ tt
-    (either (bytes_eq w (codes "rewrite")) Rewrite _ tt (either (bytes_eq w (codes "run")) Run None tt tt))))
+    (either (bytes_eq w (codes "rewrite")) Rewrite _ tt (either (bytes_eq w (codes "certify")) Certify _ tt (either (bytes_eq w (codes "run")) Run None tt tt)))))
 
 bench-in-range : (v w : List ℕ) → IfSome (bench_of v w) IsWithinRange
 bench-in-range v w = by (bytes_eq v (codes "bench")) (bench_number w) (number-in-range w)
