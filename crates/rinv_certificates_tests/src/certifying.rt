@@ -56,7 +56,11 @@ const OTHERS: &[(&[u8], &[u8], Ending)] = &[
         b"denied law L5 part 1 rest 1\n",
         Ending::Denied,
     ),
-    (b"field 4\n", b"refused line 1 field\n", Ending::Refused),
+    (
+        b"field 4\n",
+        b"refused line 1 Field not listed\n",
+        Ending::Refused,
+    ),
 ];
 
 // Whether the certificate of the text's system is printed and accepted, of kind `full`, with so many fractions.

@@ -1,8 +1,8 @@
 -- What a run of `certify` wrote, a run of `check` accepts.
 --   accepted-run
-use Rattle.std.proofs.Common.{◌≡◌, ℕ, ◌+◌, ◌≤◌, List, [], ◌++◌, length, length-append, append-nil, String, Option, Some, None, inl, inr, sym, ap, ◌∙◌, subst, arith}
+use Rattle.std.proofs.Common.{◌≡◌, ℕ, ◌+◌, ◌≤◌, List, ◌++◌, length, length-append, append-nil, String, Option, Some, None, inl, inr, sym, ap, ◌∙◌, subst, arith}
 use Rattle.std.specs.declared.alloc.Global.{Global}
-use Rattle.std.specs.Io.KnownBytes.{Appends, Consumes, IsAtEnd}
+use Rattle.std.specs.Io.KnownBytes.{Consumes, IsAtEnd}
 use Rattle.rinv_lines.specs.declared.ending.Ending.{Ending}
 use Rattle.rinv_lines.specs.declared.ending.Ending.TheVariants as ends
 use Rattle.rinv_certificates.specs.Commands.Certify.{IsCertifyAnswer}
