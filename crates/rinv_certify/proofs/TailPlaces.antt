@@ -39,7 +39,7 @@ pub at-place : (g : Generated) (r : Relation) (q : TiedRelation) → IsStoredRel
     → k < length r.tail → x ≡ get_or r.tail k x → e ≡ get_or stored k e → AtPlace g r q k x (symbol_of e.1)
 at-place g r q is ties k x stored e seen low x_at e_at =
     let many = ties-count g r q ties in
-    let long = length-map stored (λ (t : List ℕ × Symbol). (t.0, symbol_of t.1)) in
+    let long = length-map {B = List ℕ × Tied} stored (λ (t : List ℕ × Symbol). (t.0, symbol_of t.1)) in
     let alike = ap (λ us. length us) seen in
     let here : (e.0, symbol_of e.1) ≡ get_or q.tail k (e.0, symbol_of e.1) = symbol-at q.tail stored k e seen (omega (arith, low, many, long, alike)) e_at in
     let mapped = length-map q.tail (λ (y : List ℕ × Tied). y.1) in

@@ -1,7 +1,6 @@
--- The numbers of a command that words are, and what it reads.
---   in-range      they are within their range
---   nothing-read  `bench` has no input
-use Rattle.std.proofs.Common.{◌≡◌, ℕ, ◌+◌, ◌-◌, ◌*◌, ◌≤◌, List, [], ◌∷◌, String, Option, Some, None, Bool, true, false, not, ◌&&◌, ◌==◌, if◌then◌else◌, nat_le, codes, refl, sym, ap, ◌∙◌, subst, arith, ⊤}
+-- The numbers of a command that words are.
+--   in-range    they are within their range
+use Rattle.std.proofs.Common.{◌≡◌, ℕ, ◌+◌, ◌-◌, ◌*◌, ◌≤◌, List, [], ◌∷◌, String, Option, Some, None, Bool, true, false, not, ◌&&◌, ◌==◌, if◌then◌else◌, nat_le, codes, refl, sym, ap, ◌∙◌, subst, arith}
 use Rattle.std.specs.Prelude.{IfSome, fold, option_map, string_bytes, bytes_eq, get_or}
 use Rattle.std.specs.List.{list_all}
 use Rattle.std.specs.declared.alloc.Global.{Global}
@@ -11,7 +10,7 @@ use Rattle.rinv_defs.specs.Names.{is_digit}
 use Rattle.rinv_text.specs.Tokens.{number_of}
 use Rattle.rinv_commands.specs.declared.command.Command.{Command}
 use Rattle.rinv_commands.specs.declared.command.Command.TheVariants.{Check, Laws, Gen, Rewrite, Certify, Run, Bench}
-use Rattle.rinv_commands.specs.Inputs.{IsWithinRange, max_bench, reads}
+use Rattle.rinv_commands.specs.Inputs.{IsWithinRange, max_bench}
 use Rattle.rinv_serve.specs.Words.{command_named, is_count, bench_number, bench_of, command_of}
 
 -- ---- numbers
@@ -68,12 +67,3 @@ words-in-range (u ∷ v ∷ w ∷ ws) = tt
 
 pub in-range : (words : List (String Global)) (asked : Command) → command_of words ≡ Some asked → IsWithinRange asked
 in-range words asked e = subst (λ (o : Option Command). IfSome o IsWithinRange) e (words-in-range words)
-
--- ---- what is read
-
-reads-of : Option Command → Bool
-reads-of None = true
-reads-of (Some c) = reads c
-
-pub nothing-read : (words : List (String Global)) (asked : Command) (k : ℕ) → command_of words ≡ Some asked → command_of words ≡ Some (Bench k) → reads asked ≡ false
-nothing-read words asked k e f = ap reads-of (sym e ∙ f)

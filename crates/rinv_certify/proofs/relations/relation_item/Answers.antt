@@ -27,6 +27,16 @@ bounds-relations-k c =
     let many = all_zip-long (Ties g.told.system.p g.fractions) g.relations g.monic gens.relations in
     omega (arith, c.requires.inside, many, alike)
 
+pub offset_bounds-relations-k : goal.offset_bounds-relations-k
+offset_bounds-relations-k c =
+    let g = c.args.gens.now in
+    let gens = subst IsGenerators c.gens.view_is c.gens.invariant in
+    let monic : c.as_slice-relations.result.now ≡ g.monic = c.as_slice-relations.ensures.value ∙ c.monic.view_is ∙ ap (λ (x : Generated). x.monic) c.gens.view_is in
+    let alike = ap (λ xs. length xs) monic in
+    let many = all_zip-long (Ties g.told.system.p g.fractions) g.relations g.monic gens.relations in
+    let low : c.args.k < length c.as_slice-relations.result.now = omega (arith, c.requires.inside, many, alike) in
+    record { fits = grind (arith, low) }
+
 pub bounds-ties-k : goal.bounds-ties-k
 bounds-ties-k c =
     let alike = ap (λ xs. length xs) (c.as_slice-ties.ensures.value ∙ ap (λ (x : Generated). x.relations) c.gens.view_is) in

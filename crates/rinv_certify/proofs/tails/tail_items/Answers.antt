@@ -11,6 +11,7 @@ use Rattle.rinv_algebra.proofs.PolynomialLaws.{poly_laws}
 use Rattle.rinv_algebra.proofs.ResidueLaws.{residue_laws}
 use Rattle.rinv_reduction.specs.Localised.{all_count}
 use Rattle.rinv_defs.specs.System.{Poly, space_count}
+use Rattle.rinv_defs.specs.Certificate.{Tied}
 use Rattle.rinv_defs.specs.Extended.{Relation}
 use Rattle.rinv_defs.specs.RelationConditions.{z_power, behind_z}
 use Rattle.rinv_cert.specs.Seen.{tail_item_by}
@@ -41,7 +42,7 @@ bounds-ties-k c =
     let ties = ap (λ (y : TiedRelation). length y.tail) c.symbols.view_is in
     let slice = ap (λ ts. length ts) c.as_slice-tail.ensures.value in
     let other = ap (λ ts. length ts) c.as_slice-ties.ensures.value in
-    let long = length-map c.symbols.inside.tail.items (λ t. (t.0, symbol_of t.1)) in
+    let long = length-map {B = List ℕ × Tied} c.symbols.inside.tail.items (λ t. (t.0, symbol_of t.1)) in
     let many = ties-count c.args.gens.now c.args.relation.now q c.requires.ties in
     omega (arith, tail, ties, slice, other, long, many, c.tail-test.true)
 

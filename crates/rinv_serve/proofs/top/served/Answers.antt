@@ -1,8 +1,12 @@
 use Rattle.std.proofs.Common.{◌≡◌, ◌∙◌, Err, codes, refl, sym, ap, inr}
 use Rattle.rinv_lines.specs.declared.ending.Ending.TheVariants as ends
 use Rattle.rinv_serve.specs.declared.status.Status.TheVariants.{ReadFault, NoMemory}
+use Rattle.rinv_serve.proofs.Ranges.{in-range}
 use Rattle.rinv_serve.proofs.Runs.{run-sent}
 use Rattle.rinv_serve.proofs.top.served.Goals as goal
+
+pub answer-requires-clause-numbers : goal.answer-requires-clause-numbers
+answer-requires-clause-numbers g c = in-range c.args.words.now c.in-Some.command (sym c.command_of.ensures ∙ c.in-Some.is)
 
 pub returns-in-Err-TooLong-clause-run : goal.returns-in-Err-TooLong-clause-run
 returns-in-Err-TooLong-clause-run g c =
