@@ -22,6 +22,7 @@ use Rattle.rinv_queries.specs.Commands.Run.{IsUnknown}
 use Rattle.rinv_queries.specs.Commands.Script.{asking}
 use Rattle.rinv_bench.specs.Summary.{summary_text}
 use Rattle.rinv_bench.specs.Commands.Bench.{IsMeasured}
+use Rattle.rinv_bench.proofs.LastFacts.{last-answers}
 
 pub sums-up : (k count : ℕ) (told : Told) (qs : List Query) (cs : List Fraction) (os slice : List Outcome) (text : List ℕ) → AreComplete told.system cs → AreAnswered told.system cs qs os
     → count ≡ length cs → slice ≡ os → text ≡ summary_text k told.system count slice → IsMeasured k (asking told qs) text Done
@@ -30,6 +31,7 @@ sums-up k count told qs cs os slice text complete answered many same is = record
   complete = complete;
   outcomes = os;
   answered = answered;
+  last = λ j e found. last-answers told.system cs 1 j e qs os answered found;
   printed = is ∙ ap₂ (λ (n : ℕ) (l : List Outcome). summary_text k told.system n l) many same;
 }
 

@@ -1,6 +1,7 @@
 -- What `bench` answers. Nothing is read: the script is that of the workload.
-use Rattle.std.specs.Prelude.{◌≡◌, ◌⊎◌, ℕ, List, length}
+use Rattle.std.specs.Prelude.{◌≡◌, ◌⊎◌, ℕ, List, length, Some}
 use Rattle.rinv_defs.specs.Invariant.{Fraction}
+use Rattle.rinv_defs.specs.Generators.{Expression}
 use Rattle.rinv_lines.specs.declared.ending.Ending.{Ending}
 use Rattle.rinv_lines.specs.declared.ending.Ending.TheVariants.{Done, Denied, Refused, Incomplete}
 use Rattle.rinv_workload.specs.Workload.{workload_text}
@@ -11,7 +12,8 @@ use Rattle.rinv_queries.specs.declared.outcome.Outcome.{Outcome}
 use Rattle.rinv_queries.specs.Outcomes.{AreAnswered}
 use Rattle.rinv_queries.specs.Cuts.{IsQueryCut}
 use Rattle.rinv_queries.specs.Commands.Script.{AnswersScript}
-use Rattle.rinv_bench.specs.Summary.{summary_text}
+use Rattle.rinv_bench.specs.Summary.{last_expression, summary_text}
+use Rattle.rinv_bench.specs.Last.{IsLast}
 
 -- The generators are complete, and each query has its answer: an invariant its expression in them, and a fraction that is not invariant the
 -- rest of its change. The text has the numbers of generators, of expressions and of such rests, and the last expression with the number of
@@ -21,6 +23,7 @@ pub record SumsUp (k : ℕ) (script : Script) (text : List ℕ) : Type 0 where
   pub complete : AreComplete script.told.system fractions
   pub outcomes : List Outcome
   pub answered : AreAnswered script.told.system fractions script.queries outcomes
+  pub last : (j : ℕ) (e : Expression) → last_expression 1 outcomes ≡ Some (j, e) → IsLast script.told.system fractions 1 script.queries outcomes j e
   pub printed : text ≡ summary_text k script.told.system (length fractions) outcomes
 
 -- the answer to the script of the workload: no query denies
