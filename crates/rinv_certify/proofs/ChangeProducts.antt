@@ -3,10 +3,10 @@
 --   change-fits          they fit where each does
 --   first-meets, second-meets, sums-meet, changes-meet    the degrees that they meet
 --   zip-all              all pairs of two lists
-use Rattle.std.proofs.Common.{◌≡◌, ℕ, zero, suc, ◌+◌, ◌<◌, ◌≤◌, Bool, true, List, [], ◌∷◌, length, get_or, take, zip, refl, sym, ◌∙◌, ap, ap₂, subst, subst₂, nat_lt, arith, inl, inr}
-use Rattle.std.specs.Prelude.{Result, IfOk, IfErr, OnOk, Contains, ◌&&◌}
+use Rattle.std.proofs.Common.{◌≡◌, ℕ, suc, ◌<◌, Bool, true, List, [], ◌∷◌, length, get_or, zip, refl, sym, ◌∙◌, ap, ap₂, subst, subst₂, nat_lt, arith, inl, inr}
+use Rattle.std.specs.Prelude.{Result, IfOk, IfErr, OnOk}
 use Rattle.std.specs.Result.{MatchResult}
-use Rattle.std.specs.List.{AllZip, list_all}
+use Rattle.std.specs.List.{list_all}
 use Rattle.rinv_algebra.specs.Ring.{IsSame}
 use Rattle.rinv_algebra.specs.Residue.{residue_ops}
 use Rattle.rinv_algebra.specs.Polynomial.{poly_ops, past}
@@ -30,10 +30,10 @@ use Rattle.rinv_parts.specs.Points.{ArePolynomials, AreStored}
 use Rattle.rinv_parts.specs.Substitutions.{IsValue, TakenMeets}
 use Rattle.rinv_parts.proofs.Stored.{stored-self, stored-same}
 use Rattle.rinv_parts.proofs.Values.{value-answer}
-use Rattle.rinv_change.specs.Changes.{ChangingMeets, change_count, in_numerator, in_denominator, in_first, in_second}
+use Rattle.rinv_change.specs.Changes.{ChangingMeets, change_count, in_first, in_second}
 use Rattle.rinv_change.specs.Cofactors.{ProvesInvariance}
 use Rattle.rinv_acceptance.specs.Fits.{change_multiplies}
-use Rattle.rinv_generators.specs.Generated.{Generated, IsGenerators}
+use Rattle.rinv_generators.specs.Generated.{Generated}
 use Rattle.rinv_certify.specs.Meets.{ChangeMeets, ChangeProductsMeet, ChangesMeet}
 use Rattle.rinv_certify.specs.Meets.ChangeMeets.{in_change, in_identity}
 

@@ -1,13 +1,13 @@
 -- No generator Zj - gj is zero.
-use Rattle.std.proofs.Common.{◌≡◌, ◌⊎◌, ℕ, ◌+◌, ◌-◌, ◌*◌, ◌<◌, ◌≤◌, List, [], ◌∷◌, ◌++◌, length, length-append, get_or, replicate, refl, sym, ◌∙◌, ap, subst, arith, inl, inr, false}
+use Rattle.std.proofs.Common.{◌≡◌, ◌⊎◌, ℕ, ◌+◌, ◌-◌, ◌*◌, ◌<◌, ◌≤◌, List, [], ◌++◌, length, length-append, get_or, replicate, refl, sym, ◌∙◌, ap, subst, arith, inl, inr, false}
 use Rattle.std.specs.Prelude.{IsFalse}
 use Rattle.std.proofs.lemmas.List.{length-replicate, get_or-replicate}
 use Rattle.std.proofs.lemmas.List.FromFn.{length-map-range_with_len}
 use Rattle.rinv_algebra.specs.Residue.{residue_ops}
-use Rattle.rinv_algebra.specs.Polynomial.{poly_ops, constant, variable, is_zero}
+use Rattle.rinv_algebra.specs.Polynomial.{poly_ops, variable, is_zero}
 use Rattle.rinv_algebra.proofs.PolynomialLaws.{poly_laws}
 use Rattle.rinv_algebra.proofs.ResidueField.{residue_field_laws}
-use Rattle.rinv_theory.proofs.CRing.{CRing, Hom, compose, add_neg, add_cancel, hom-zero, hom-neg}
+use Rattle.rinv_theory.proofs.CRing.{CRing, Hom, compose, add_neg, add_cancel}
 use Rattle.rinv_theory.proofs.Classes.{Class, class, class-one, class-zero}
 use Rattle.rinv_theory.proofs.Monoid.{monomials}
 use Rattle.rinv_theory.proofs.Polynomials.{polynomials, poly_ring}

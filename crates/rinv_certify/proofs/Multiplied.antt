@@ -1,9 +1,9 @@
 -- Each product that the conditions of a certificate of generators multiply fits, where those of its parts do.
 --   rows-fit             the rows of the inputs times the basis
 --   sound-multiplies, full-multiplies    the whole, of either kind
-use Rattle.std.proofs.Common.{◌≡◌, ℕ, zero, suc, ◌+◌, ◌*◌, ◌≤◌, Bool, true, false, List, [], ◌∷◌, ◌++◌, length, map, get_or, replicate, take, cond, refl, sym, ◌∙◌, ap, ap₂, subst, arith}
-use Rattle.std.specs.Prelude.{All, ◌&&◌, ◌==◌, not, nat_lt, nat_le, set, zip, if◌then◌else◌, sum}
-use Rattle.std.specs.List.{AllZip, list_all, range_with_len}
+use Rattle.std.proofs.Common.{◌≡◌, ℕ, zero, suc, ◌+◌, ◌*◌, ◌≤◌, Bool, true, false, List, [], ◌∷◌, ◌++◌, length, map, get_or, replicate, take, cond, refl, sym, subst, arith}
+use Rattle.std.specs.Prelude.{All, ◌&&◌, ◌==◌, not, nat_lt, nat_le, zip, sum}
+use Rattle.std.specs.List.{list_all, range_with_len}
 use Rattle.std.proofs.lemmas.Bool.Decides.{nat_tests}
 use Rattle.std.proofs.lemmas.List.Elements.{All-head, All-tail, All-nil, All-cons}
 use Rattle.std.proofs.lemmas.List.Sums.{sum_by-cons}
@@ -16,17 +16,16 @@ use Rattle.rinv_algebra.proofs.Same.{both, and_true}
 use Rattle.rinv_groebner.specs.Journal.{nonzeros}
 use Rattle.rinv_defs.specs.System.{System, Poly, group_count, space_count}
 use Rattle.rinv_defs.specs.SystemForm.{is_good}
-use Rattle.rinv_defs.specs.Laws.{all_laws}
 use Rattle.rinv_defs.specs.Invariant.{Fraction}
 use Rattle.rinv_defs.specs.Extended.{graph}
-use Rattle.rinv_defs.specs.Certificate.{Certificate, Kind, sound, full, BasisItem}
+use Rattle.rinv_defs.specs.Certificate.{Certificate, Kind, sound, full}
 use Rattle.rinv_defs.specs.Conditions.{elements}
-use Rattle.rinv_acceptance.specs.Fits.{all_multiply, all_multiply_of, law_multiplies, at_graph_multiplies, pair_multiplies, relation_multiplies, change_multiplies}
+use Rattle.rinv_acceptance.specs.Fits.{all_multiply, all_multiply_of, at_graph_multiplies, change_multiplies}
 use Rattle.rinv_acceptance.specs.Inputs.{stored_one, unit_row, input_row, input_rows}
 use Rattle.rinv_fits.proofs.Greatest.{fits-by_degrees, fits-empty}
 use Rattle.rinv_recording.specs.Recorded.{PairsFit}
 use Rattle.rinv_generators.specs.Generated.{Generated, IsGenerators}
-use Rattle.rinv_certification.specs.Made.{IsBasisItemOf, HasCommonPart, HasBasisPart}
+use Rattle.rinv_certification.specs.Made.{HasCommonPart, HasBasisPart}
 use Rattle.rinv_certify.specs.Parts.{LawsFit, ChangesFit, BasisFits, RelationsFit}
 use Rattle.rinv_certification.proofs.FullParts.{elements_of}
 

@@ -3,7 +3,7 @@
 --   whole-vanishes       a relation as it is stored lies in the group's ideal there
 --   item-of, item-fits   an item is that of its relation, and its products fit
 --   graph-met            the degrees of its cofactors
-use Rattle.std.proofs.Common.{◌≡◌, ℕ, ◌<◌, true, List, [], ◌∷◌, length, get_or, map, sym, ◌∙◌, ap, ap₂, subst, refl}
+use Rattle.std.proofs.Common.{◌≡◌, ℕ, ◌<◌, true, List, [], ◌∷◌, length, get_or, map, sym, ◌∙◌, ap, subst, refl}
 use Rattle.std.specs.Prelude.{◌&&◌}
 use Rattle.rinv_algebra.specs.Ring.{IsSame}
 use Rattle.rinv_algebra.specs.Residue.{residue_ops}

@@ -3,8 +3,8 @@
 --   numerator-meets, term-meets, tie-meets    the degrees that it meets
 --   sum-more, normal-more              one term more
 --   inside-of, symbol-at               the tie at a place
-use Rattle.std.proofs.Common.{◌≡◌, ℕ, zero, suc, ◌+◌, ◌<◌, ◌≤◌, Bool, true, List, [], ◌∷◌, ◌++◌, length, get_or, map, take, zip, sym, ◌∙◌, ap, ap₂, subst, subst₂, refl, nat_lt, arith, inl, inr, append-nil}
-use Rattle.std.specs.Prelude.{Contains, ◌&&◌, flat_map, All}
+use Rattle.std.proofs.Common.{◌≡◌, ℕ, ◌+◌, ◌<◌, true, List, [], ◌∷◌, ◌++◌, length, get_or, map, sym, ◌∙◌, ap, subst, subst₂, nat_lt, inl, inr, append-nil}
+use Rattle.std.specs.Prelude.{flat_map}
 use Rattle.std.proofs.lemmas.List.{map_push, get_or-map}
 use Rattle.std.proofs.lemmas.List.Elements.{All-push}
 use Rattle.std.proofs.lemmas.Grind.{flat_map-append}

@@ -2,7 +2,7 @@
 --   element-vanishes     an element lies in the group's ideal there
 --   vanishes-same        so does what is the same
 --   relation-vanishes    so does a relation over the common denominator of its coefficients
-use Rattle.std.proofs.Common.{◌≡◌, ℕ, ◌+◌, ◌*◌, ◌<◌, List, [], ◌∷◌, length, get_or, All, ◌∙◌, sym, subst, arith}
+use Rattle.std.proofs.Common.{◌≡◌, ℕ, ◌+◌, ◌*◌, ◌<◌, [], ◌∷◌, length, get_or, All, ◌∙◌, sym, subst, arith}
 use Rattle.std.specs.declared.cmp.Ordering.TheVariants.{Less}
 use Rattle.std.proofs.lemmas.List.{get_or_default}
 use Rattle.rinv_algebra.specs.Residue.{residue_ops}

@@ -4,19 +4,15 @@
 --   raised_item, raised-so   the item that stands for a relation before its coefficients are stored
 --   lead-met, denominator-met, tail-met   the degrees that a relation meets
 --   whole-is, whole-fits     the whole
-use Rattle.std.proofs.Common.{◌≡◌, ℕ, zero, suc, ◌+◌, ◌<◌, ◌≤◌, true, List, [], ◌∷◌, ◌++◌, length, get_or, map, take, zip, sym, ◌∙◌, ap, ap₂, subst, subst₂, refl, arith}
-use Rattle.std.specs.Prelude.{Contains, ◌&&◌, flat_map}
-use Rattle.std.specs.List.{AllZip, list_all}
-use Rattle.std.proofs.lemmas.List.{length-map, map_push, take_all}
-use Rattle.std.proofs.lemmas.List.Folds.{list_all-append}
+use Rattle.std.proofs.Common.{◌≡◌, ℕ, zero, suc, ◌<◌, List, [], ◌∷◌, length, get_or, map, zip, sym, ap, ap₂, subst, subst₂, refl, arith}
+use Rattle.std.specs.Prelude.{Contains, flat_map}
+use Rattle.std.specs.List.{AllZip}
+use Rattle.std.proofs.lemmas.List.{length-map, take_all}
 use Rattle.rinv_algebra.specs.Ring.{IsSame}
 use Rattle.rinv_algebra.specs.Residue.{residue_ops}
 use Rattle.rinv_algebra.specs.Polynomial.{poly_ops, term_product, difference}
-use Rattle.rinv_algebra.specs.Fits.{product_fits}
 use Rattle.rinv_algebra.proofs.PolynomialLaws.{poly_laws}
 use Rattle.rinv_algebra.proofs.ResidueLaws.{residue_laws}
-use Rattle.rinv_algebra.proofs.RingFacts as facts
-use Rattle.rinv_algebra.proofs.Same.{and_true}
 use Rattle.rinv_ring.specs.Fault.{DegreesMeet}
 use Rattle.rinv_ring.specs.declared.fault.RingFault.{RingFault}
 use Rattle.rinv_poly.specs.Sums.{sum_of}
@@ -24,19 +20,17 @@ use Rattle.rinv_poly.proofs.Meets.{meet-weaker}
 use Rattle.rinv_defs.specs.System.{System, Poly}
 use Rattle.rinv_defs.specs.Invariant.{Fraction}
 use Rattle.rinv_defs.specs.Extended.{Relation}
-use Rattle.rinv_defs.specs.Certificate.{Certificate, Tied, TailItem, RelationItem}
+use Rattle.rinv_defs.specs.Certificate.{Tied, TailItem, RelationItem}
 use Rattle.rinv_defs.specs.RelationConditions.{z_power, behind_z, relation_of}
 use Rattle.rinv_cert.specs.declared.certificate.Tied.{Tied as StoredTied}
-use Rattle.rinv_cert.specs.Seen.{relation_item_by, tail_item_by}
+use Rattle.rinv_cert.specs.Seen.{relation_item_by}
 use Rattle.rinv_coefficients.specs.Ties.{TiedRelation}
 use Rattle.rinv_acceptance.specs.Denominators.{once, product_of, raised}
 use Rattle.rinv_acceptance.specs.Raised.{IsRaised, IsTailItemOf, denominators}
 use Rattle.rinv_basis_check.proofs.RelationSums.{relation-value}
-use Rattle.rinv_gens.proofs.Tied.{zip-push}
 use Rattle.rinv_generators.specs.Generated.{Generated}
-use Rattle.rinv_certification.specs.Made.{HasCommonPart}
 use Rattle.rinv_certify.specs.Meets.{ProductMeets, RaisingMeets, RelationMeets, TailItemMeets, TailMeets, TermMeets}
-use Rattle.rinv_certify.specs.Wholes.{TailFits, TailItemFits, term_in}
+use Rattle.rinv_certify.specs.Wholes.{term_in}
 
 -- ---- pairs of two lists
 

@@ -1,13 +1,13 @@
-use Rattle.std.proofs.Common.{◌≡◌, ◌<◌, ◌≤◌, ◌∙◌, ℕ, [], List, length, get_or, sym, ap, subst, arith}
+use Rattle.std.proofs.Common.{◌≡◌, ◌<◌, ◌≤◌, ℕ, [], List, length, get_or, ap, subst, arith}
 use Rattle.std.specs.List.{AllZip}
 use Rattle.std.proofs.lemmas.List.{get_or_default, take_all}
 use Rattle.std.proofs.lemmas.Result.{err_from_is_err_and}
 use Rattle.rinv_buch.specs.Kinds.{Found}
 use Rattle.rinv_defs.specs.System.{Poly}
 use Rattle.rinv_cert.specs.Seen.{basis_item_by}
-use Rattle.rinv_generators.specs.Generated.{Generated, IsGenerators}
+use Rattle.rinv_generators.specs.Generated.{Generated}
 use Rattle.rinv_certification.specs.Made.{IsBasisItemOf}
-use Rattle.rinv_certify.specs.Parts.{BasisFits, basis_seen}
+use Rattle.rinv_certify.specs.Parts.{basis_seen}
 use Rattle.rinv_certify.proofs.BasisItems.{elements-met, fits-more}
 use Rattle.rinv_certify.proofs.Taken.{zipped-more}
 use Rattle.rinv_certify.proofs.basis.basis_items.Goals as goal

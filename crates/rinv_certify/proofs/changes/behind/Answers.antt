@@ -1,6 +1,4 @@
-use Rattle.std.proofs.Common.{◌∙◌, ◌+◌, ℕ, length, sym, ap, ap₂, subst}
-use Rattle.std.specs.Prelude.{IfOk, ◌≡◌}
-use Rattle.rinv_algebra.specs.Polynomial.{past}
+use Rattle.std.proofs.Common.{◌∙◌, ◌+◌, ℕ, length, sym, ap, ap₂}
 use Rattle.rinv_defs.specs.System.{space_count}
 use Rattle.rinv_text.specs.Told.{Told}
 use Rattle.rinv_change.proofs.MadeChanges.{normal-over}

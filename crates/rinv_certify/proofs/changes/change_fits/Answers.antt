@@ -1,4 +1,4 @@
-use Rattle.std.proofs.Common.{◌≡◌, ◌<◌, ◌∙◌, [], List, length, get_or, map, sym, ap, ap₂, subst, subst₂, true, arith}
+use Rattle.std.proofs.Common.{◌≡◌, ◌∙◌, [], List, length, get_or, map, sym, ap, subst, subst₂, true, arith}
 use Rattle.std.proofs.lemmas.List.{get_or_default, length-map}
 use Rattle.std.proofs.lemmas.Result.{err_from_is_err_and}
 use Rattle.rinv_ring.specs.Fault.{DegreesMeet}

@@ -1,4 +1,4 @@
-use Rattle.std.proofs.Common.{◌≡◌, ◌<◌, ◌∙◌, ℕ, [], List, length, get_or, sym, ap, subst, subst₂, true, arith}
+use Rattle.std.proofs.Common.{◌≡◌, ℕ, [], List, length, get_or, sym, ap, subst₂, true, arith}
 use Rattle.rinv_text.specs.Told.{Told}
 use Rattle.rinv_defs.specs.System.{Poly}
 use Rattle.rinv_parts.specs.Points.{AreStored}

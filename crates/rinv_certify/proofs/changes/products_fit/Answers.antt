@@ -1,11 +1,8 @@
 use Rattle.std.proofs.Common.{◌∙◌, sym, subst, subst₂, true, ◌≡◌, refl}
 use Rattle.std.proofs.lemmas.Result.{err_from_is_err_and}
-use Rattle.rinv_algebra.specs.Residue.{residue_ops}
-use Rattle.rinv_algebra.specs.Normal.{IsNormal}
 use Rattle.rinv_frac.specs.Fractions.{IsPart}
 use Rattle.rinv_frac.proofs.Stored.{stored}
 use Rattle.rinv_defs.specs.System.{Poly, space_count}
-use Rattle.rinv_defs.specs.Invariant.{Fraction}
 use Rattle.rinv_parts.proofs.Stored.{stored-count, stored-normal, normal-over as all-over}
 use Rattle.rinv_change.specs.Changes.{change_count}
 use Rattle.rinv_change.proofs.MadeChanges.{normal-over, taken-denominator, taken-numerator}

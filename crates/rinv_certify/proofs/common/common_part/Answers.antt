@@ -1,6 +1,4 @@
-use Rattle.std.proofs.Common.{◌≡◌, ◌∙◌, List, [], map, ap}
-use Rattle.rinv_text.specs.Told.{Told}
-use Rattle.rinv_defs.specs.System.{System}
+use Rattle.std.proofs.Common.{◌∙◌, [], map, ap}
 use Rattle.rinv_generators.specs.Generated.{Generated}
 use Rattle.rinv_certify.proofs.LawDegrees.{laws-seen}
 use Rattle.rinv_certify.proofs.common.common_part.Goals as goal

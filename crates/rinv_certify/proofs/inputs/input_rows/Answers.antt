@@ -1,5 +1,4 @@
-use Rattle.std.proofs.Common.{◌≡◌, ◌<◌, ◌≤◌, ◌+◌, ◌++◌, ◌∙◌, length, refl, sym, ap, arith}
-use Rattle.rinv_defs.specs.System.{space_count}
+use Rattle.std.proofs.Common.{◌<◌, ◌++◌, ◌∙◌, length, refl, ap, arith}
 use Rattle.rinv_defs.specs.Extended.{graph}
 use Rattle.rinv_text.specs.Told.{Told}
 use Rattle.rinv_acceptance.specs.Inputs.{input_rows}

@@ -1,4 +1,4 @@
-use Rattle.std.proofs.Common.{◌≡◌, ◌<◌, ◌∙◌, length, get_or, sym, ap, nat_lt, arith}
+use Rattle.std.proofs.Common.{◌≡◌, ◌∙◌, length, get_or, sym, ap, nat_lt, arith}
 use Rattle.rinv_algebra.specs.Residue.{residue_ops}
 use Rattle.rinv_algebra.specs.Normal.{IsNormal}
 use Rattle.rinv_algebra.specs.Polynomial.{is_zero}

@@ -1,4 +1,4 @@
-use Rattle.std.proofs.Common.{◌∙◌, refl, sym, arith}
+use Rattle.std.proofs.Common.{refl, arith}
 use Rattle.rinv_acceptance.specs.Inputs.{stored_one, unit_row}
 use Rattle.rinv_certify.proofs.Rows.{entry-at, row-length}
 use Rattle.rinv_certify.proofs.Taken.{one-more}

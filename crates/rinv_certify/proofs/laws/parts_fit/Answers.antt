@@ -1,4 +1,4 @@
-use Rattle.std.proofs.Common.{◌≡◌, ◌≤◌, ℕ, true, length, ap, subst, arith}
+use Rattle.std.proofs.Common.{◌≡◌, ◌≤◌, ℕ, true, length, subst, arith}
 use Rattle.rinv_defs.specs.Laws.{parts}
 use Rattle.rinv_parts.specs.LawNames.{law_of}
 use Rattle.rinv_parts.specs.Parts.{part_fits}

@@ -1,4 +1,4 @@
-use Rattle.std.proofs.Common.{◌≡◌, ◌∙◌, ℕ, List, map, sym, ap, subst, subst₂}
+use Rattle.std.proofs.Common.{◌≡◌, ℕ, map, ap, subst, subst₂}
 use Rattle.std.proofs.lemmas.Result.{err_from_is_err_and}
 use Rattle.rinv_ring.specs.Fault.{DegreesMeet}
 use Rattle.rinv_text.specs.Told.{Told}

@@ -1,7 +1,5 @@
-use Rattle.std.proofs.Common.{◌≡◌, ◌∷◌, sym, subst, nat_lt, All}
+use Rattle.std.proofs.Common.{◌≡◌, ◌∷◌, sym, subst}
 use Rattle.std.proofs.lemmas.List.Elements.{All-head, All-tail}
-use Rattle.rinv_algebra.specs.Residue.{residue_ops}
-use Rattle.rinv_algebra.specs.Normal.{IsNormal}
 use Rattle.rinv_frac.specs.Fractions.{IsPart}
 use Rattle.rinv_defs.specs.System.{space_count}
 use Rattle.rinv_parts.specs.Points.{ArePolynomials}

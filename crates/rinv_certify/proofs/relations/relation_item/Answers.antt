@@ -1,7 +1,5 @@
-use Rattle.std.proofs.Common.{◌≡◌, ◌<◌, ◌∙◌, List, ℕ, length, get_or, refl, sym, ap, subst, subst₂, nat_lt, arith}
+use Rattle.std.proofs.Common.{◌≡◌, ◌<◌, ◌∙◌, length, get_or, ap, subst, subst₂, arith}
 use Rattle.std.proofs.lemmas.Result.{err_from_is_err_and}
-use Rattle.rinv_algebra.specs.Residue.{residue_ops}
-use Rattle.rinv_algebra.specs.Normal.{IsNormal}
 use Rattle.rinv_reduction.specs.Localised.{all_count}
 use Rattle.rinv_ring.specs.Fault.{DegreesMeet}
 use Rattle.rinv_defs.specs.System.{space_count}

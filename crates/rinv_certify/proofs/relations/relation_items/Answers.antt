@@ -1,10 +1,9 @@
-use Rattle.std.proofs.Common.{◌≡◌, ◌≤◌, ◌<◌, ◌∙◌, List, [], ℕ, length, get_or, map, take, zip, refl, sym, ap, subst, arith}
+use Rattle.std.proofs.Common.{◌≡◌, ◌<◌, [], length, get_or, zip, refl, sym, ap, subst, arith}
 use Rattle.std.specs.List.{AllZip}
 use Rattle.std.proofs.lemmas.List.{get_or_default, take_all}
 use Rattle.std.proofs.lemmas.Result.{err_from_is_err_and}
 use Rattle.rinv_poly.proofs.Meets.{meet-weaker}
 use Rattle.rinv_tails.specs.Stored.{none}
-use Rattle.rinv_defs.specs.Extended.{Relation}
 use Rattle.rinv_cert.specs.Seen.{relation_item_by}
 use Rattle.rinv_coefficients.specs.Ties.{TiedRelation, Ties}
 use Rattle.rinv_acceptance.specs.Fits.{relation_multiplies}

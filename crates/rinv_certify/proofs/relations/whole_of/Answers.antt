@@ -1,5 +1,4 @@
 use Rattle.std.proofs.Common.{◌≡◌, ◌∙◌, ◌∷◌, [], List, ℕ, length, map, zip, refl, sym, ap, subst, subst₂, nat_lt, true}
-use Rattle.std.specs.Prelude.{flat_map}
 use Rattle.std.specs.List.{AllZip}
 use Rattle.std.proofs.lemmas.List.Elements.{All-cons}
 use Rattle.std.proofs.lemmas.Result.{err_from_is_err_and}
@@ -15,7 +14,7 @@ use Rattle.rinv_text.specs.Told.{Told}
 use Rattle.rinv_poly.specs.Sums.{sum_of}
 use Rattle.rinv_defs.specs.System.{System, Poly, space_count}
 use Rattle.rinv_defs.specs.Extended.{Relation}
-use Rattle.rinv_defs.specs.RelationConditions.{z_power, behind_z, relation_of}
+use Rattle.rinv_defs.specs.RelationConditions.{z_power, behind_z}
 use Rattle.rinv_cert.specs.Seen.{tail_item_by}
 use Rattle.rinv_tails.specs.Stored.{IsStoredRelation}
 use Rattle.rinv_parts.specs.Points.{ArePolynomials, IsStoredIn}

@@ -1,4 +1,4 @@
-use Rattle.std.proofs.Common.{◌≡◌, ◌≤◌, ◌<◌, ◌∙◌, ℕ, List, [], length, get_or, map, take, zip, sym, ap, subst, subst₂, arith, refl, nat_lt, All}
+use Rattle.std.proofs.Common.{◌≡◌, ◌∙◌, ℕ, List, [], length, get_or, map, zip, ap, subst, arith, refl, nat_lt}
 use Rattle.std.specs.Prelude.{◌&&◌, ◌∷◌}
 use Rattle.std.specs.List.{AllZip}
 use Rattle.std.proofs.lemmas.List.{length-map, take_all}
@@ -10,7 +10,7 @@ use Rattle.rinv_algebra.specs.Fits.{product_fits}
 use Rattle.rinv_algebra.proofs.PolynomialLaws.{poly_laws}
 use Rattle.rinv_algebra.proofs.ResidueLaws.{residue_laws}
 use Rattle.rinv_reduction.specs.Localised.{all_count}
-use Rattle.rinv_defs.specs.System.{Poly, space_count}
+use Rattle.rinv_defs.specs.System.{space_count}
 use Rattle.rinv_defs.specs.Certificate.{Tied}
 use Rattle.rinv_defs.specs.Extended.{Relation}
 use Rattle.rinv_defs.specs.RelationConditions.{z_power, behind_z}

@@ -1,9 +1,8 @@
 use Rattle.std.proofs.Common.{◌≡◌, ℕ, ◌≤◌, List, ◌++◌, length, replicate, ap, ap₂, ◌∙◌, subst, arith}
 use Rattle.rinv_text.specs.Told.{Told}
 use Rattle.rinv_text.proofs.SystemParts.{between, parts-of}
-use Rattle.rinv_defs.specs.System.{group_count, space_count}
+use Rattle.rinv_defs.specs.System.{group_count}
 use Rattle.rinv_basis_check.proofs.PairMultiples.{one-distinct}
-use Rattle.rinv_basis_check.proofs.RelationTerms.{power-degree}
 use Rattle.rinv_certify.proofs.TermParts.{made-length, made-normal, made-same}
 use Rattle.rinv_certify.proofs.terms.z_power.Goals as goal
 
