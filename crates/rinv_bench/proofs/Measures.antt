@@ -3,7 +3,7 @@
 --   unknown-measured, unanswered-measured    with what stands in its place
 --   stored-in                                the outcomes are stored in symbols for the generators
 --   all-suffice                              where generators are known, all queries have their answer
-use Rattle.std.proofs.Common.{◌≡◌, ℕ, List, ap, ap₂, ◌∙◌, refl, sym, subst, inl, inr, length, get_or, All, true}
+use Rattle.std.proofs.Common.{◌≡◌, ℕ, List, ap₂, ◌∙◌, refl, sym, subst, inl, inr, length, get_or, All, true}
 use Rattle.std.proofs.lemmas.List.Elements.{All-from_get_or}
 use Rattle.rinv_defs.specs.System.{System}
 use Rattle.rinv_defs.specs.Invariant.{Fraction}

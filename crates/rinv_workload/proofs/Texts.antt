@@ -2,15 +2,15 @@
 --   begins           the lines that come first
 --   more             a query more
 --   all              all of them
-use Rattle.std.proofs.Common.{◌≡◌, ℕ, ◌+◌, List, [], ◌∷◌, ◌++◌, map, append_assoc, append-nil, refl, sym, ap, ◌∙◌, Bool, true, false, ◌%◌, ◌==◌, arith}
-use Rattle.std.specs.Prelude.{codes, decimal, flat_map}
+use Rattle.std.proofs.Common.{◌≡◌, ℕ, ◌+◌, List, ◌++◌, map, append_assoc, append-nil, sym, ap, ◌∙◌, Bool, true, false, ◌%◌, ◌==◌, arith}
+use Rattle.std.specs.Prelude.{codes, decimal}
 use Rattle.std.specs.List.{range_with_len}
 use Rattle.std.proofs.lemmas.Bool.Decides.{nat_tests}
 use Rattle.std.proofs.lemmas.List.{flat_map_more}
 use Rattle.std.proofs.lemmas.List.FromFn.{map-range_with_len_more}
 use Rattle.std.proofs.lemmas.Grind.{flat_map-append}
 use Rattle.rinv_system.specs.Written.{text_of}
-use Rattle.rinv_workload.specs.Workload.{first_lines, constant, exponent, power, denominator, numerator, query_line, workload_text}
+use Rattle.rinv_workload.specs.Workload.{first_lines, constant, exponent, query_line, workload_text}
 
 -- a line and its end
 abbrev pub ended : List ℕ → List ℕ

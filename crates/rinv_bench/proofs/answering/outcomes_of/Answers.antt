@@ -1,4 +1,4 @@
-use Rattle.std.proofs.Common.{◌≡◌, ◌+◌, ℕ, map, sym, subst}
+use Rattle.std.proofs.Common.{◌+◌, map, sym, subst}
 use Rattle.rinv_defs.specs.System.{space_count}
 use Rattle.rinv_poly.proofs.Meets.{meet-weaker}
 use Rattle.rinv_script.specs.declared.form.Query.{Query as StoredQuery}

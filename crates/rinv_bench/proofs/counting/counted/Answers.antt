@@ -1,7 +1,7 @@
 use Rattle.std.proofs.Common.{◌∙◌, Bool, ap, refl}
 use Rattle.std.specs.Prelude.{if◌then◌else◌}
 use Rattle.rinv_bench.specs.Summary.{is_rewritten, is_not_invariant}
-use Rattle.rinv_bench.proofs.Counts.{more, low, all}
+use Rattle.rinv_bench.proofs.Counts.{more, all}
 use Rattle.rinv_bench.proofs.counting.counted.Goals as goal
 
 pub outcomes-init : goal.outcomes-init

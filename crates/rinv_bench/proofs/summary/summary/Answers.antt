@@ -1,4 +1,4 @@
-use Rattle.std.proofs.Common.{◌∙◌, ◌++◌, List, ℕ, ap, sym, length, codes, refl}
+use Rattle.std.proofs.Common.{◌∙◌, ◌++◌, List, ℕ, ap, length, codes, refl}
 use Rattle.rinv_text.specs.Names.{symbols}
 use Rattle.rinv_queries.proofs.Pieces.{symbols-number}
 use Rattle.rinv_bench.specs.Summary.{number_line}

@@ -1,5 +1,4 @@
 use Rattle.std.proofs.Common.{◌≡◌}
-use Rattle.rinv_workload.specs.Workload.{first_lines}
 use Rattle.rinv_workload.proofs.Texts.{so_far}
 use Rattle.rinv_workload.proofs.text.bench_text.Given as goal
 

@@ -1,5 +1,4 @@
-use Rattle.std.proofs.Common.{◌≡◌, ◌<◌, ◌-◌, ◌^◌, List, ℕ, length, sym, subst, ◌∙◌}
-use Rattle.rinv_lines.specs.declared.ending.Ending.{Ending}
+use Rattle.std.proofs.Common.{◌<◌, ◌-◌, ◌^◌, List, ℕ, length, sym, subst, ◌∙◌}
 use Rattle.rinv_answers.specs.Told.{AnswersTold}
 use Rattle.rinv_script.specs.declared.form.Form.TheVariants.{Whole}
 use Rattle.rinv_script.specs.ScriptTexts.{IsScriptText, IsRefusedScript}

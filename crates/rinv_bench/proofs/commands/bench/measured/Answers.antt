@@ -1,4 +1,4 @@
-use Rattle.std.proofs.Common.{◌≡◌, ◌∙◌, map, length, true}
+use Rattle.std.proofs.Common.{map, length, true}
 use Rattle.std.proofs.lemmas.Result.{err_from_is_err_and}
 use Rattle.rinv_script.specs.Stored.{query_of}
 use Rattle.rinv_queries.specs.Commands.Script.{asking}
