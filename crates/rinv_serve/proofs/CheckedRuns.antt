@@ -59,7 +59,7 @@ check-due bytes text certified words left' shown ending asks d = elim d.defined 
   | inr long ↦ absurd (too-many long)
 ]
   where
-    too-many : AnswersLong (Some text) left' shown ending → ⊥
+    too-many : AnswersLong d.asked (Some text) left' shown ending → ⊥
     too-many long =
         let fits : length text ≤ max_input = short bytes text certified in
         let read : length long.bytes ≤ length text = no-longer text long.bytes left' long.taken in
