@@ -2,6 +2,4 @@
 #![tactic(auto)]
 
 #[cfg(test)]
-mod expressing;
-#[cfg(test)]
 mod rewriting;

@@ -15,13 +15,13 @@ use rinv_system::read_system;
 use rinv_text::{System, read_poly};
 use std::alloc::Global;
 
-pub(crate) const ROTATIONS: &[u8] =
+const ROTATIONS: &[u8] =
     b"field 101\ngroup a, b\nspace x, y\nideal a^2+b^2-1\nunit 1, 0\nproduct a*a'-b*b', a*b'+b*a'\ninverse a, -b\naction a*x-b*y, b*x+a*y\n";
 
 const LINE_SCALINGS: &[u8] =
     b"field 101\ngroup a, b\nspace x\nideal a*b-1\nunit 1, 1\nproduct a*a', b*b'\ninverse b, a\naction a*x\n";
 
-pub(crate) const SCALINGS: &[u8] =
+const SCALINGS: &[u8] =
     b"field 101\ngroup a, b\nspace x, y\nideal a*b-1\nunit 1, 1\nproduct a*a', b*b'\ninverse b, a\naction a*x, a*y\n";
 
 const SHIFTS: &[u8] = b"field 5\ngroup a\nspace x\nunit 0\nproduct a+a'\ninverse -a\naction x+a\n";
@@ -33,7 +33,7 @@ const EXCHANGES: &[u8] =
     b"field 7\ngroup a\nspace x, y\nideal a^2-1\nunit 1\nproduct a*a'\ninverse a\naction 4*(1+a)*x+4*(1-a)*y, 4*(1-a)*x+4*(1+a)*y\n";
 
 // The exponents and the coefficient.
-pub(crate) type Term<'a> = (&'a [u32], u32);
+type Term<'a> = (&'a [u32], u32);
 
 // One, in so many symbols.
 const ONE_IN_NONE: &[Term] = &[(&[], 1)];
@@ -43,7 +43,7 @@ const ONE_IN_ONE: &[Term] = &[(&[0], 1)];
 const ONE_IN_TWO: &[Term] = &[(&[0, 0], 1)];
 
 // The system of a text.
-pub(crate) fn system_of(alloc: Global, text: &[u8]) -> Option<System>
+fn system_of(alloc: Global, text: &[u8]) -> Option<System>
     ensures { IfSome result (λ told. IsSystem told.system) }
 {
     if text.len() > 10_000 {
@@ -74,7 +74,7 @@ fn with_equation(alloc: Global, system: System, text: &str) -> Option<System>
 }
 
 // The system of a text on the line where y is 1.
-pub(crate) fn on_line(alloc: Global, text: &[u8]) -> Option<System>
+fn on_line(alloc: Global, text: &[u8]) -> Option<System>
     ensures { IfSome result (λ told. IsSystem told.system) }
 {
     let system = system_of(alloc, text)?;
@@ -106,7 +106,7 @@ fn poly_of(alloc: Global, system: &System, text: &str) -> Option<KPoly>
 }
 
 // The fraction of two texts.
-pub(crate) fn fraction_of(alloc: Global, system: &System, num: &str, den: &str) -> Option<Frac>
+fn fraction_of(alloc: Global, system: &System, num: &str, den: &str) -> Option<Frac>
     ensures { IfSome result (IsStored system.now.system.p (space_count system.now.system)) }
 {
     let num = poly_of(alloc, system, num)?;
@@ -133,7 +133,7 @@ fn has_exponents(mono: &Mono, wanted: &[u32]) -> bool {
 }
 
 // Whether the polynomial has these terms.
-pub(crate) fn has_terms(f: &KPoly, wanted: &[Term]) -> bool {
+fn has_terms(f: &KPoly, wanted: &[Term]) -> bool {
     let terms = f.terms();
     if terms.len() != wanted.len() {
         return false;
