@@ -3,13 +3,11 @@
 --   sparing-over             a sparing journal, in the same way
 --   action_basis-of          what is known of the basis
 --   stops-over               where the run halts
-use Rattle.std.proofs.Common.{◌≡◌, ℕ, Bool, true, false, cond, not, List, [], ◌∷◌, map, refl, sym, ap, ◌∙◌, subst, nat_lt, All}
-use Rattle.std.specs.List.{AllZip}
+use Rattle.std.proofs.Common.{◌≡◌, ℕ, Bool, true, false, cond, not, List, [], ◌∷◌, refl, sym, ◌∙◌, subst, nat_lt}
 use Rattle.std.specs.declared.cmp.Ordering.{Ordering}
-use Rattle.rinv_algebra.specs.Ring.{RingOps, RingLaws, IsSame}
+use Rattle.rinv_algebra.specs.Ring.{RingOps, RingLaws}
 use Rattle.rinv_algebra.specs.Residue.{residue_ops}
-use Rattle.rinv_algebra.specs.Polynomial.{Polynomial, poly_ops, is_zero}
-use Rattle.rinv_algebra.specs.Normal.{IsNormal}
+use Rattle.rinv_algebra.specs.Polynomial.{Polynomial, is_zero}
 use Rattle.rinv_algebra.proofs.Degrees.{is_zero-same}
 use Rattle.rinv_algebra.proofs.PolynomialLaws.{poly_laws}
 use Rattle.rinv_algebra.proofs.ResidueLaws.{residue_laws}
@@ -23,7 +21,7 @@ use Rattle.rinv_defs.specs.Extended.{action_ideal}
 use Rattle.rinv_div.specs.declared.budget.Budget.{Budget}
 use Rattle.rinv_buch.specs.declared.kinds.Stop.{Stop}
 use Rattle.rinv_buch.specs.declared.kinds.Stop.TheVariants.{Incomplete, NoMemory}
-use Rattle.rinv_buch.specs.Kinds.{Found, Halted}
+use Rattle.rinv_buch.specs.Kinds.{Found}
 use Rattle.rinv_buch.specs.Causes.{Halts, StopsSo}
 use Rattle.rinv_parts.specs.Points.{AreStored, ArePolynomials}
 use Rattle.rinv_parts.proofs.Stored.{stored-same, normal-over}

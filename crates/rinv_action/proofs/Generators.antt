@@ -5,7 +5,7 @@
 use Rattle.std.proofs.Common.{◌≡◌, ℕ, zero, suc, ◌+◌, ◌*◌, ◌<◌, ◌≤◌, List, [], ◌∷◌, ◌++◌, length, map, take, take_all, get_or, nat_lt, nat_le, true, ◌&&◌, refl, sym, ap, ap₂, ◌∙◌, subst, arith, All, AllPairs}
 use Rattle.std.specs.List.{AllZip, list_all, range_with_len, zip}
 use Rattle.std.proofs.lemmas.List.{map-append, length-map, get_or-map}
-use Rattle.std.proofs.lemmas.List.Elements.{All-nil, All-cons, All-head, All-tail, All-append, All-weaker, AllZip-push}
+use Rattle.std.proofs.lemmas.List.Elements.{All-nil, All-cons, All-head, All-tail, All-append, AllZip-push}
 use Rattle.std.proofs.lemmas.List.FromFn.{length-range_with_len, get_or-range_with_len, get_or-map-range_with_len, length-map-range_with_len, fill_by_all}
 use Rattle.std.proofs.lemmas.List.Kept.{AllPairs-cons}
 use Rattle.rinv_algebra.specs.Ring.{IsSame}
@@ -18,7 +18,7 @@ use Rattle.rinv_algebra.proofs.RingFacts as facts
 use Rattle.rinv_algebra.specs.Value.{rename, substitute}
 use Rattle.rinv_sub.specs.Places.{ArePlaces}
 use Rattle.rinv_sub.proofs.Images.{AllZip-append}
-use Rattle.rinv_defs.specs.System.{System, Poly, group_count, space_count, group_copy, variables, moved, differences, at_point}
+use Rattle.rinv_defs.specs.System.{System, Poly, group_count, space_count, group_copy, variables, moved, differences}
 use Rattle.rinv_algebra.proofs.Same.{both}
 use Rattle.rinv_defs.specs.SystemForm.{IsSystem, is_good, system_parts}
 use Rattle.rinv_defs.specs.Extended.{graph, action_ideal}

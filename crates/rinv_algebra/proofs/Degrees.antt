@@ -3,13 +3,13 @@
 --   degree-above         no monomial that f has is above its degree
 --   degree-bound         the degree is the least such bound
 --   degree-same, is_zero-same, product_fits-same    what depends on the coefficients alone
-use Rattle.std.proofs.Common.{◌≡◌, ℕ, ◌≤◌, Bool, true, false, not, ◌||◌, cond, List, [], ◌∷◌, ◌++◌, map, ◌⊎◌, inl, inr, refl, sym, ap, ◌∙◌, arith, true≢false}
-use Rattle.std.specs.Prelude.{IsTrue, ◌==◌, max, nat_le, ◌+◌, fold, filter}
+use Rattle.std.proofs.Common.{◌≡◌, ℕ, ◌≤◌, Bool, true, false, not, ◌||◌, List, [], ◌∷◌, ◌++◌, map, ◌⊎◌, inl, inr, refl, sym, ap, ◌∙◌, arith, true≢false}
+use Rattle.std.specs.Prelude.{◌==◌, max, ◌+◌, fold, filter}
 use Rattle.std.proofs.lemmas.Bool.{cases_Bool}
 use Rattle.std.proofs.lemmas.List.Sums.{sum_by-cons}
 use Rattle.std.proofs.lemmas.Bool.{eqb-true}
 use Rattle.rinv_algebra.specs.Ring.{RingOps, RingLaws, IsSame}
-use Rattle.rinv_algebra.specs.Monomial.{same_monomial, total_degree, max_degree}
+use Rattle.rinv_algebra.specs.Monomial.{same_monomial, total_degree}
 use Rattle.rinv_algebra.specs.Polynomial.{Polynomial, coefficient, same, poly_ops, is_zero, has_monomial, monomials, degree}
 use Rattle.rinv_algebra.specs.Fits.{product_fits}
 use Rattle.rinv_algebra.proofs.PolynomialLaws.{poly_laws}

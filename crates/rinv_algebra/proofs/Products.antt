@@ -5,11 +5,10 @@
 --   factors-take_more                          one variable more
 --   value-append                               a sum over some of the terms, and then the others
 --   combination-push, combination_fits-push    one product more
-use Rattle.std.proofs.Common.{◌≡◌, ℕ, zero, suc, ◌+◌, ◌<◌, ◌≤◌, Bool, true, false, ◌&&◌, List, [], ◌∷◌, ◌++◌, map, length, get_or, take, drop, refl, sym, ap, ◌∙◌, arith, add-one, append_assoc, append-nil, zero-add}
-use Rattle.std.specs.Prelude.{IsTrue, replicate}
-use Rattle.std.specs.List.{list_all}
+use Rattle.std.proofs.Common.{◌≡◌, ℕ, zero, suc, ◌+◌, ◌<◌, ◌≤◌, Bool, true, false, ◌&&◌, List, [], ◌∷◌, ◌++◌, length, get_or, take, drop, refl, sym, ap, ◌∙◌, arith, add-one, append_assoc, append-nil, zero-add}
+use Rattle.std.specs.Prelude.{replicate}
 use Rattle.rinv_algebra.specs.Ring.{RingOps, RingLaws, IsSame}
-use Rattle.rinv_algebra.specs.Polynomial.{Polynomial, product, poly_ops, constant}
+use Rattle.rinv_algebra.specs.Polynomial.{Polynomial, product, poly_ops}
 use Rattle.rinv_algebra.specs.Value.{factors, times_all, value}
 use Rattle.rinv_algebra.specs.Ideal.{combination}
 use Rattle.rinv_algebra.specs.Fits.{product_fits, products_fit, combination_fits}

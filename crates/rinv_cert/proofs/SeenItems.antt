@@ -10,8 +10,6 @@ use Rattle.rinv_json.specs.Shapes.{◌>>=◌, elements, whole, each, list_of, pa
 use Rattle.rinv_json.specs.Items.{tied, basis_item, pair_item, tail_item, relation_item}
 use Rattle.rinv_cert.specs.declared.certificate.Tied.{Tied}
 use Rattle.rinv_cert.specs.declared.certificate.Tied.TheVariants.{Constant, Generator}
-use Rattle.rinv_cert.specs.declared.certificate.PairItem.{PairItem}
-use Rattle.rinv_cert.specs.declared.certificate.PairItem.TheVariants.{Coprime, Chain, Quotients}
 use Rattle.rinv_cert.specs.Seen.{tied_of, basis_item_by, pair_item_by, tail_item_by, relation_item_by}
 use Rattle.rinv_cert.specs.Shaped.{tied_shape, coprime_shape, chain_shape, quotients_shape, pair_shape}
 use Rattle.rinv_cert.proofs.Same.{map-same}

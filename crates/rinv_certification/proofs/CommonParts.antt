@@ -22,7 +22,6 @@ use Rattle.rinv_defs.specs.Certificate.{Certificate, Kind, BasisItem, PairItem, 
 use Rattle.rinv_defs.specs.Format.{law_variables, laws_with_cofactors, are_law_cofactors, fraction_parts, common_parts, law_parts}
 use Rattle.rinv_defs.specs.Conditions.{nth_cofactors, law_failure, invariance_failure}
 use Rattle.rinv_frac.specs.Fractions.{IsStored}
-use Rattle.rinv_buch.specs.Kinds.{Found}
 use Rattle.rinv_parts.specs.LawNames.{variables_of}
 use Rattle.rinv_parts.specs.Points.{ArePolynomials}
 use Rattle.rinv_laws.specs.Proofs.{proved_laws, ProvesLaw}
@@ -32,7 +31,7 @@ use Rattle.rinv_generators.specs.Generated.{Generated, IsGenerators}
 use Rattle.rinv_soundness.proofs.GeneratorLists.{all_at}
 use Rattle.rinv_soundness.proofs.SystemForms.{system_form}
 use Rattle.rinv_acceptance.specs.Fits.{law_multiplies, change_multiplies}
-use Rattle.rinv_acceptance.proofs.HeldConditions.{SumsOfLaw, laws_hold, invariance_holds, one_copy}
+use Rattle.rinv_acceptance.proofs.HeldConditions.{SumsOfLaw, laws_hold, invariance_holds}
 use Rattle.rinv_acceptance.proofs.LawForms.{parts_exact, copies_exact}
 
 pub equal : (a b : ℕ) → a ≡ b → (a == b) ≡ true

@@ -14,7 +14,7 @@ use Rattle.rinv_algebra.specs.Fits.{product_fits}
 use Rattle.rinv_algebra.specs.Monomial.{total_degree, max_degree}
 use Rattle.rinv_algebra.proofs.ResidueLaws.{residue_laws}
 use Rattle.rinv_algebra.proofs.Same.{both, and_true}
-use Rattle.rinv_defs.specs.System.{System, group_count, space_count}
+use Rattle.rinv_defs.specs.System.{System, space_count}
 use Rattle.rinv_defs.specs.SystemForm.{is_good}
 use Rattle.rinv_defs.specs.Invariant.{Fraction, IsFraction}
 use Rattle.rinv_defs.specs.Certificate.{Certificate, TailItem, RelationItem}

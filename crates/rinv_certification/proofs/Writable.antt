@@ -2,11 +2,10 @@
 --   small_poly           the numbers of a polynomial in the form in which it is stored
 --   common_small, laws_small, basis_small    those of the keys
 --   certificate_writable the whole
-use Rattle.std.proofs.Common.{◌≡◌, ℕ, ◌+◌, ◌*◌, ◌<◌, ◌≤◌, ◌^◌, Bool, true, List, [], ◌∷◌, ◌++◌, length, Option, Some, None, refl, sym, ◌∙◌, ap, subst, arith}
-use Rattle.std.specs.Prelude.{IsTrue, ◌&&◌, ◌==◌, nat_lt, nat_le, sum, zip, map, not}
+use Rattle.std.proofs.Common.{◌≡◌, ℕ, ◌+◌, ◌*◌, ◌<◌, ◌≤◌, ◌^◌, true, List, [], ◌∷◌, ◌++◌, length, Option, Some, None, refl, sym, ◌∙◌, ap, subst, arith}
+use Rattle.std.specs.Prelude.{IsTrue, ◌&&◌, ◌==◌, nat_lt, nat_le, zip, not}
 use Rattle.std.specs.List.{AllZip, list_all, AllByRecursion}
 use Rattle.std.proofs.lemmas.Bool.Decides.{nat_tests}
-use Rattle.std.proofs.lemmas.List.{length-map}
 use Rattle.std.proofs.lemmas.List.Sums.{sum_by-cons}
 use Rattle.std.proofs.lemmas.Option.{none-some}
 use Rattle.rinv_algebra.specs.Residue.{residue_ops, is_listed}
@@ -24,7 +23,7 @@ use Rattle.rinv_defs.specs.Accepted.{conditions_of, first_failing, first_failure
 use Rattle.rinv_defs.proofs.Tests.{list_all-implies, parts_true, first_false-append, first_false-append_right}
 use Rattle.rinv_json.specs.Ranges.{is_small, are_small, is_small_poly, are_small_polys, is_small_tied, is_small_pair, is_small_tail, is_small_relation, HaveSmallCommon, HaveSmallLaws, HaveSmallBasis, HaveNoBasis, IsWritable}
 use Rattle.rinv_generators.specs.Generated.{Generated}
-use Rattle.rinv_certification.specs.Made.{IsBasisItemOf, HasCommonPart, HasBasisPart, HasNoBasisPart, IsCertificateOf}
+use Rattle.rinv_certification.specs.Made.{IsBasisItemOf, IsCertificateOf}
 
 -- ---- numbers
 

@@ -13,11 +13,10 @@ use Rattle.rinv_text.specs.Told.{Told}
 use Rattle.rinv_buch.specs.Kinds.{Found, journal_of}
 use Rattle.rinv_laws.specs.Faults.{TestMeets}
 use Rattle.rinv_laws.specs.Proofs.{ProofsMeet}
-use Rattle.rinv_coefficients.specs.Coefficients.{IsOrderedBasis, coefficients, generators_of}
+use Rattle.rinv_coefficients.specs.Coefficients.{IsOrderedBasis, generators_of}
 use Rattle.rinv_coefficients.proofs.NothingMissed.{nothing_missed}
-use Rattle.rinv_gens.specs.Numbering.{WalkMeets}
 use Rattle.rinv_gens.specs.declared.kinds.Phase.{Phase}
-use Rattle.rinv_gens.specs.declared.kinds.Phase.TheVariants.{Laws, Tail}
+use Rattle.rinv_gens.specs.declared.kinds.Phase.TheVariants.{Laws}
 use Rattle.rinv_gens.specs.declared.kinds.GenStop.{GenStop}
 use Rattle.rinv_gens.specs.declared.kinds.GenStop.TheVariants as stop
 use Rattle.rinv_gens.specs.Halts.{GenStopsSo}

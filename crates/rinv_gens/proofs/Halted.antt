@@ -1,15 +1,13 @@
 -- Where the work halts after both runs.
 --   IsHere               both runs have ended, and the laws hold
 --   at-elimination, at-tails, stop-missed    what a stop of the relations says
-use Rattle.std.proofs.Common.{◌≡◌, ◌++◌, ℕ, List, subst, inl, inr, sym}
+use Rattle.std.proofs.Common.{◌≡◌, ◌++◌, ℕ, subst, inl, inr, sym}
 use Rattle.std.specs.Prelude.{◌⊎◌}
-use Rattle.rinv_groebner.specs.Journal.{Entry}
 use Rattle.rinv_defs.specs.System.{Poly}
 use Rattle.rinv_defs.specs.Laws.{AllLawsHold}
 use Rattle.rinv_text.specs.Told.{Told}
-use Rattle.rinv_buch.specs.declared.kinds.Why.{Why}
 use Rattle.rinv_buch.specs.declared.kinds.Why.TheVariants.{Degree}
-use Rattle.rinv_buch.specs.Kinds.{Found, journal_of}
+use Rattle.rinv_buch.specs.Kinds.{journal_of}
 use Rattle.rinv_elim.specs.Action.{EliminationMeets}
 use Rattle.rinv_gens.specs.declared.kinds.Phase.{Phase}
 use Rattle.rinv_gens.specs.declared.kinds.Phase.TheVariants.{Action, Tail}

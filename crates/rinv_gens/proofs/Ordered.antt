@@ -3,7 +3,6 @@
 use Rattle.std.proofs.Common.{List, ap, ◌∙◌, All}
 use Rattle.std.specs.Prelude.{get_or, slice_index_or}
 use Rattle.std.specs.Ordering.{ordering_reverse}
-use Rattle.std.specs.declared.cmp.Ordering.TheVariants.{Less}
 use Rattle.rinv_algebra.specs.Residue.{residue_ops}
 use Rattle.rinv_algebra.specs.Order.{grevlex}
 use Rattle.rinv_algebra.proofs.Grevlex.{grevlex_laws}

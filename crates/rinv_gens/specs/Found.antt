@@ -1,9 +1,8 @@
 -- What is found for a system on the way to its generators.
-use Rattle.std.specs.Prelude.{◌≡◌, ℕ, List, All}
+use Rattle.std.specs.Prelude.{◌≡◌, All}
 use Rattle.std.specs.List.{AllZip}
-use Rattle.rinv_defs.specs.System.{System, Poly, space_count}
+use Rattle.rinv_defs.specs.System.{space_count}
 use Rattle.rinv_defs.specs.Laws.{AllLawsHold}
-use Rattle.rinv_defs.specs.Invariant.{Fraction}
 use Rattle.rinv_defs.specs.Extended.{Misses}
 use Rattle.rinv_text.specs.Told.{Told}
 use Rattle.rinv_frac.specs.Fractions.{IsStored}

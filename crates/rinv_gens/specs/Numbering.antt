@@ -2,7 +2,7 @@
 --   with_new              a fraction more
 --   ComparisonMeets       the degrees that the comparison of two fractions meets
 --   AmongMeets, WalkMeets, NumberingMeets    so of a fraction and earlier generators, in a list, in the relations
-use Rattle.std.specs.Prelude.{◌≡◌, ◌⊎◌, ◌||◌, ℕ, List, [], ◌∷◌, ◌++◌, map, Contains, if◌then◌else◌}
+use Rattle.std.specs.Prelude.{◌≡◌, ◌⊎◌, ◌||◌, ℕ, List, [], ◌∷◌, ◌++◌, Contains, if◌then◌else◌}
 use Rattle.rinv_algebra.specs.Residue.{residue_ops}
 use Rattle.rinv_poly.specs.Faults.{MonomialsMeet}
 use Rattle.rinv_defs.specs.System.{System}

@@ -1,5 +1,5 @@
 -- The relations of the extended ideal, as they are made: before their tails are reduced, and after.
-use Rattle.std.specs.Prelude.{◌≡◌, ℕ, List, length}
+use Rattle.std.specs.Prelude.{◌≡◌, ℕ, List}
 use Rattle.rinv_defs.specs.System.{System, Poly, space_count}
 use Rattle.rinv_defs.specs.Extended.{Relation}
 use Rattle.rinv_parts.specs.Points.{ArePolynomials}

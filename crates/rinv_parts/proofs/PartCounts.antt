@@ -2,7 +2,7 @@
 --   points-form          points as they are stored
 --   polynomials-few      how many polynomials a law speaks of
 --   doubled, single      how many parts it has
-use Rattle.std.proofs.Common.{◌≡◌, ℕ, ◌+◌, ◌*◌, ◌≤◌, List, ◌++◌, length, length-append, refl, sym, ap, ◌∙◌, subst, inl, inr, arith}
+use Rattle.std.proofs.Common.{◌≡◌, ℕ, ◌+◌, ◌*◌, ◌≤◌, List, ◌++◌, length, length-append, refl, sym, ◌∙◌, subst, inl, inr, arith}
 use Rattle.std.specs.Prelude.{◌⊎◌}
 use Rattle.rinv_text.proofs.SystemParts.{HasParts, parts-of, between}
 use Rattle.rinv_defs.specs.System.{System, Poly, group_count, space_count, group_copy, space_behind, unit_point, times, inverse_of, moved}

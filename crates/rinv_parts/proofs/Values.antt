@@ -2,13 +2,11 @@
 --   value-answer       a polynomial at a point that stands for another
 --   difference-stored, less-answer    differences
 --   vanish-made, agree-made, give-made, first-made, second-made    a part of what is said of polynomials
-use Rattle.std.proofs.Common.{◌≡◌, ℕ, ◌+◌, ◌-◌, ◌<◌, ◌≤◌, ◌&&◌, Bool, true, false, List, [], ◌∷◌, ◌++◌, length, map, get_or, nat_lt, refl, sym, ap, ◌∙◌, subst, inl, inr, arith}
+use Rattle.std.proofs.Common.{◌≡◌, ℕ, ◌+◌, ◌-◌, ◌<◌, ◌≤◌, ◌&&◌, Bool, true, false, List, [], ◌∷◌, ◌++◌, length, get_or, nat_lt, refl, sym, ◌∙◌, subst, inl, inr, arith}
 use Rattle.std.specs.Prelude.{Result, Ok, Err, IfOk, IfErr, OnOk, if◌then◌else◌, ◌⊎◌}
 use Rattle.std.specs.Global.{Vec}
 use Rattle.std.specs.Result.{MatchResult}
-use Rattle.std.specs.List.{AllZip, list_all}
-use Rattle.std.proofs.lemmas.Bool.Decides.{nat_tests}
-use Rattle.std.proofs.lemmas.List.{get_or_default}
+use Rattle.std.specs.List.{AllZip}
 use Rattle.std.proofs.lemmas.List.Elements.{AllZip-get_or}
 use Rattle.rinv_algebra.specs.Ring.{IsSame}
 use Rattle.rinv_algebra.specs.Residue.{residue_ops}
@@ -25,7 +23,6 @@ use Rattle.rinv_ring.specs.declared.fault.RingFault.TheVariants.{Degree, NoMemor
 use Rattle.rinv_sub.proofs.Images.{substitute-images, fits-images}
 use Rattle.rinv_sub.proofs.Misfits.{residues-alike}
 use Rattle.rinv_defs.specs.System.{Poly}
-use Rattle.rinv_parts.specs.declared.law_points.LawPoints.{LawPoints}
 use Rattle.rinv_parts.specs.declared.law_points.LawPoints.TheVariants.{Vanish, Agree, Give, GiveBoth}
 use Rattle.rinv_parts.specs.Points.{ArePoints, AreStored, IsStoredIn, Points, vanish, agree, give, give_both}
 use Rattle.rinv_parts.specs.Substitutions.{IsAgreement, IsLess, IsMade, IsValue, OneMeets, TakenMeets, less, taken_at}

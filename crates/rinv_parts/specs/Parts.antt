@@ -1,5 +1,5 @@
 -- The parts of a law, as they are made one at a time.
-use Rattle.std.specs.Prelude.{◌≡◌, ℕ, Bool, true, List, [], get_or}
+use Rattle.std.specs.Prelude.{◌≡◌, ℕ, Bool, true, [], get_or}
 use Rattle.rinv_defs.specs.System.{System, Poly}
 use Rattle.rinv_defs.specs.SystemForm.{IsSystem}
 use Rattle.rinv_defs.specs.Laws.{Law, parts}

@@ -4,7 +4,7 @@
 --   unfound-rewritten .. unanswered-scripted    and so is what stands in its place
 use Rattle.std.proofs.Common.{ℕ, List, Bool, true, false, inl, inr}
 use Rattle.std.specs.Prelude.{if◌then◌else◌}
-use Rattle.rinv_script.specs.Queries.{Query, Script, need_generators}
+use Rattle.rinv_script.specs.Queries.{Script, need_generators}
 use Rattle.rinv_text.specs.Told.{Told}
 use Rattle.rinv_lines.specs.declared.ending.Ending.{Ending}
 use Rattle.rinv_lines.specs.declared.ending.Ending.TheVariants.{Done, Denied, Refused, Incomplete}

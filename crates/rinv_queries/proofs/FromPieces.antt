@@ -1,7 +1,7 @@
 -- What follows of the pieces that are found for a system.
 --   pieces-within      the journal of the group's basis is within what the text allows
 --   pieces-complete    the generators are complete
-use Rattle.std.proofs.Common.{List, refl}
+use Rattle.std.proofs.Common.{refl}
 use Rattle.rinv_defs.specs.SystemForm.{IsSystem}
 use Rattle.rinv_text.specs.Told.{Told}
 use Rattle.rinv_gens.specs.declared.kinds.Findings.{Findings}

@@ -1,18 +1,15 @@
 -- What is known of a system whose queries are answered, case by case.
 --   known-laws            the laws hold
 --   generated-group       there is a basis of the group's ideal, made within the budget
-use Rattle.std.proofs.Common.{◌≡◌, List, [], All}
-use Rattle.std.proofs.lemmas.List.Elements.{All-nil}
-use Rattle.rinv_defs.specs.System.{space_count}
+use Rattle.std.proofs.Common.{◌≡◌, []}
 use Rattle.rinv_defs.specs.Laws.{AllLawsHold}
 use Rattle.rinv_text.specs.Told.{Told}
-use Rattle.rinv_frac.specs.Fractions.{IsStored}
 use Rattle.rinv_gens.specs.declared.kinds.Findings.{Findings}
 use Rattle.rinv_gens.specs.Found.{ArePieces}
 use Rattle.rinv_answers.specs.Budgets.{IsLimited}
 use Rattle.rinv_queries.specs.declared.known.Known.{Known}
 use Rattle.rinv_queries.specs.declared.known.Known.TheVariants.{Lawful, Generated}
-use Rattle.rinv_queries.specs.Known.{fractions_of, HasGroup, IsKnown}
+use Rattle.rinv_queries.specs.Known.{HasGroup, IsKnown}
 use Rattle.rinv_queries.proofs.FromPieces.{pieces-within}
 
 -- the laws hold

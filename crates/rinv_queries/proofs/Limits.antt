@@ -1,9 +1,7 @@
 -- A script asks for no more pairs and steps than it may.
 --   script-limited
 use Rattle.std.proofs.Common.{◌≡◌, ℕ, List, sym, subst}
-use Rattle.rinv_text.specs.Told.{Told}
 use Rattle.rinv_system.specs.LineTexts.{AreTaken}
-use Rattle.rinv_system.specs.Texts.{told_by}
 use Rattle.rinv_script.specs.declared.form.Form.{Form}
 use Rattle.rinv_script.specs.Queries.{Script}
 use Rattle.rinv_script.specs.Scripts.{ScriptDraft, IsScriptRestTaken, blank_script}

@@ -3,7 +3,7 @@
 --   IsStoredOutcome    the polynomials of an outcome are as they are stored, in so many symbols
 --   IsTurn             one query more was answered
 --   IsPage             so many were, behind what stood there before
-use Rattle.std.specs.Prelude.{◌≡◌, ℕ, ◌+◌, List, [], ◌∷◌, ◌++◌, length, Bool, false, ◌||◌, ⊤}
+use Rattle.std.specs.Prelude.{◌≡◌, ℕ, ◌+◌, List, [], ◌∷◌, ◌++◌, Bool, ◌||◌, ⊤}
 use Rattle.std.specs.List.{list_any}
 use Rattle.rinv_defs.specs.System.{System}
 use Rattle.rinv_defs.specs.Invariant.{Fraction}

@@ -1,6 +1,6 @@
 -- What an answer says, clause by clause; and where a denominator vanishes, there is a section.
 use mathlib.Core.Logic.{∥∥₁_elim}
-use Rattle.std.proofs.Common.{◌≡◌, ℕ, List, [], length, map, All, ap, ◌∙◌}
+use Rattle.std.proofs.Common.{◌≡◌, List, [], length, ◌∙◌}
 use Rattle.std.specs.Prelude.{MatchOption, Option, Some, None, ⊤}
 use Rattle.rinv_frac.specs.Fractions.{IsStored}
 use Rattle.rinv_defs.specs.System.{System}

@@ -2,14 +2,13 @@
 --   IsSoFar              those of some relations
 --   start-so_far, next-so_far    none, and one more
 --   first_of             a stored polynomial is written in the variables
-use Rattle.std.proofs.Common.{◌≡◌, ◌<◌, ◌+◌, ℕ, List, [], ◌∷◌, ◌++◌, length, get_or, take, map, All, refl, sym, ◌∙◌, ap, subst, arith}
-use Rattle.std.specs.List.{AllZip}
+use Rattle.std.proofs.Common.{◌≡◌, ◌<◌, ◌+◌, ℕ, List, [], ◌∷◌, ◌++◌, length, get_or, take, map, All, sym, ◌∙◌, ap, subst}
 use Rattle.std.proofs.lemmas.List.{take_more}
 use Rattle.std.proofs.lemmas.List.Elements.{All-nil, All-cons, All-append}
 use Rattle.rinv_algebra.specs.Ring.{RingOps, RingLaws, IsSame}
 use Rattle.rinv_algebra.specs.Residue.{residue_ops}
 use Rattle.rinv_algebra.specs.Order.{grevlex}
-use Rattle.rinv_algebra.specs.Polynomial.{Polynomial, poly_ops}
+use Rattle.rinv_algebra.specs.Polynomial.{poly_ops}
 use Rattle.rinv_algebra.proofs.Grevlex.{grevlex_laws}
 use Rattle.rinv_algebra.proofs.PolynomialLaws.{poly_laws}
 use Rattle.rinv_algebra.proofs.ResidueLaws.{residue_laws}
@@ -21,7 +20,7 @@ use Rattle.rinv_div.specs.Divisors.{AreDivisors, Adds}
 use Rattle.rinv_div.specs.declared.divisors.Divisor.{Divisor}
 use Rattle.rinv_div.proofs.DividedBy.{divisors-nil, divisors-more}
 use Rattle.rinv_defs.specs.System.{Poly}
-use Rattle.rinv_soundness.specs.Rewriting.{SymbolPoly, SymbolRelation, symbol_poly}
+use Rattle.rinv_soundness.specs.Rewriting.{SymbolPoly, symbol_poly}
 use Rattle.rinv_coefficients.specs.Ties.{TiedRelation, with_symbols}
 use Rattle.rinv_rewrite.specs.Symbols.{IsSymbolPart, is_symbolic}
 

@@ -3,10 +3,10 @@
 --   nothing-answer       where nothing is chosen, the denominator vanishes
 --   choice-answer        what is chosen is the expression
 --   answered             both
-use Rattle.std.proofs.Common.{◌≡◌, ℕ, true, List, [], ◌∷◌, length, map, All, IsTrue}
+use Rattle.std.proofs.Common.{◌≡◌, true, List, [], ◌∷◌, length, map, All, IsTrue}
 use Rattle.std.specs.Prelude.{Option, Some, None}
 use Rattle.std.proofs.lemmas.List.Elements.{All-nil, All-cons, All-weaker}
-use Rattle.rinv_algebra.specs.Ring.{RingOps, RingLaws, IsSame}
+use Rattle.rinv_algebra.specs.Ring.{RingOps, RingLaws}
 use Rattle.rinv_algebra.specs.Residue.{residue_ops}
 use Rattle.rinv_algebra.specs.Polynomial.{poly_ops, coefficient}
 use Rattle.rinv_algebra.specs.Normal.{is_in_variables}

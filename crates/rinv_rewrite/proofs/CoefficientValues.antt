@@ -4,8 +4,7 @@
 --   nothing-value        what is zero has the value zero
 --   value-nonzero        what has another value is not zero
 --   tested-yes, tested-no    a test of the value at a monomial
-use Rattle.std.proofs.Common.{◌≡◌, ℕ, Bool, true, false, not, List, [], inl, inr, refl, sym, ◌∙◌, ap, true≢false}
-use Rattle.std.specs.Prelude.{IsTrue}
+use Rattle.std.proofs.Common.{◌≡◌, ℕ, Bool, true, false, not, List, [], inl, inr, sym, ◌∙◌, ap, true≢false}
 use Rattle.std.proofs.lemmas.Bool.{cases_Bool}
 use Rattle.rinv_algebra.specs.Ring.{IsSame}
 use Rattle.rinv_algebra.specs.Residue.{residue_ops}

@@ -3,15 +3,14 @@
 use Rattle.std.proofs.Common.{◌≡◌, ℕ, Bool, true, false, List, [], ◌∷◌, refl, sym, ◌∙◌, subst}
 use Rattle.std.proofs.lemmas.List.{append-nil}
 use Rattle.std.specs.Prelude.{if◌then◌else◌}
-use Rattle.rinv_algebra.specs.Ring.{RingOps, RingLaws, FieldLaws, IsSame}
-use Rattle.rinv_algebra.specs.Polynomial.{Polynomial, poly_ops, product, term_product, constant, coefficient, is_zero}
+use Rattle.rinv_algebra.specs.Ring.{RingOps, RingLaws, IsSame}
+use Rattle.rinv_algebra.specs.Polynomial.{Polynomial, poly_ops, product, term_product, constant, coefficient}
 use Rattle.rinv_algebra.specs.Monomial.{same_monomial, monomial_product}
-use Rattle.rinv_algebra.specs.Fraction.{Fraction, over_one}
+use Rattle.rinv_algebra.specs.Fraction.{Fraction}
 use Rattle.rinv_algebra.proofs.RingFacts as facts
 use Rattle.rinv_algebra.proofs.PolynomialLaws.{poly_laws}
 use Rattle.rinv_algebra.proofs.Same.{same-from_coefficients}
-use Rattle.rinv_theory.proofs.AlikeSolver.{alike_ring, alike_reading}
-use Rattle.rinv_frac.specs.Cancelling.{IsSamePair, IsStripped, IsDivided, whole, reciprocal, neither, IsScaled, IsCancelled, zero, nonzero}
+use Rattle.rinv_frac.specs.Cancelling.{IsStripped, IsDivided, whole, reciprocal, neither, IsScaled, IsCancelled, zero, nonzero}
 
 module _ {E : Type 0} (o : RingOps E) (l : RingLaws o) where
   abbrev P : RingOps (Polynomial E)

@@ -5,7 +5,7 @@
 --   worked-terms         they are terms as a call asks for them
 --   worked-next          one term more
 --   long-in_z            the monomials of a polynomial in so many variables, put in Z
-use Rattle.std.proofs.Common.{◌≡◌, ◌<◌, ℕ, ◌+◌, Bool, true, false, List, [], ◌∷◌, ◌++◌, length, get_or, take, map, All, IsTrue, nat_lt, refl, sym, ap, ◌∙◌, subst, arith}
+use Rattle.std.proofs.Common.{◌≡◌, ◌<◌, ℕ, ◌+◌, Bool, true, false, List, [], ◌∷◌, ◌++◌, length, get_or, take, map, All, IsTrue, nat_lt, refl, sym, ap, ◌∙◌, subst}
 use Rattle.std.proofs.lemmas.List.{take_more}
 use Rattle.std.proofs.lemmas.List.Elements.{All-nil, All-cons, All-head, All-tail}
 use Rattle.std.specs.Prelude.{if◌then◌else◌}
@@ -17,7 +17,7 @@ use Rattle.rinv_algebra.specs.Polynomial.{Term, Polynomial, poly_ops, coefficien
 use Rattle.rinv_algebra.proofs.PolynomialLaws.{poly_laws}
 use Rattle.rinv_algebra.proofs.Same.{same-from_coefficients}
 use Rattle.rinv_poly.specs.Terms.{IsTerm}
-use Rattle.rinv_poly.specs.Faults.{AreWorkedOut, StandsFor}
+use Rattle.rinv_poly.specs.Faults.{AreWorkedOut}
 use Rattle.rinv_poly.proofs.Forms.{IsNormalTerm, ordered-from_normal}
 use Rattle.rinv_poly.proofs.Meets.{worked-append}
 use Rattle.rinv_soundness.specs.Rewriting.{in_z}

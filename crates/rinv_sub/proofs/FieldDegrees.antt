@@ -2,9 +2,9 @@
 --   has-degree                        a polynomial that is not zero has a monomial of its degree
 --   product-top, power-top, block-top    the products with a factor, with a power of it, with the factors of one variable more
 --   misfit-meets                      the first product with degrees that add up to more than the limit
-use Rattle.std.proofs.Common.{◌≡◌, ◌⊎◌, ℕ, zero, suc, ◌+◌, ◌-◌, ◌*◌, ◌<◌, ◌≤◌, Bool, true, false, not, ◌&&◌, List, [], ◌∷◌, ◌++◌, length, get_or, take, drop, All, refl, sym, ap, ◌∙◌, subst, arith, inl, inr, true≢false, nat_le, append_assoc, append-nil}
+use Rattle.std.proofs.Common.{◌≡◌, ◌⊎◌, ℕ, zero, suc, ◌+◌, ◌-◌, ◌*◌, ◌<◌, ◌≤◌, Bool, true, false, not, ◌&&◌, List, [], ◌∷◌, ◌++◌, length, get_or, take, drop, All, refl, sym, ap, ◌∙◌, subst, arith, inl, inr, true≢false, nat_le, append_assoc}
 use Rattle.std.specs.Prelude.{replicate}
-use Rattle.std.proofs.lemmas.Bool.{cases_Bool, leb-true, le-leb}
+use Rattle.std.proofs.lemmas.Bool.{cases_Bool, leb-true}
 use Rattle.std.proofs.lemmas.Bool.Decides.{nat_tests}
 use Rattle.std.proofs.lemmas.List.Elements.{All-nil, All-cons, All-head, All-tail, All-get_or, Contains-get_or}
 use Rattle.rinv_algebra.specs.Ring.{RingOps, RingLaws, FieldLaws, IsSame}
@@ -22,7 +22,7 @@ use Rattle.rinv_ring.specs.Operation.{RingOp}
 use Rattle.rinv_poly.specs.Faults.{HasDegree}
 use Rattle.rinv_poly.proofs.Degrees.{searched, degree-terms}
 use Rattle.rinv_poly.proofs.Forms.{ordered-from_normal}
-use Rattle.rinv_poly.proofs.NormalFacts.{has-term, some-term}
+use Rattle.rinv_poly.proofs.NormalFacts.{has-term}
 use Rattle.rinv_sub.specs.Refusal.{ProductsMeet, SubstitutionMeets, in_products}
 use Rattle.rinv_sub.proofs.Sums.{take-at, normal-at}
 use Rattle.rinv_sub.proofs.Factors.{replicate-at, block-split}

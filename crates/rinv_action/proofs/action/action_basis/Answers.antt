@@ -3,7 +3,6 @@ use Rattle.std.proofs.lemmas.Result.{err_from_is_err_and}
 use Rattle.rinv_algebra.specs.BlockEnds.{sizes_from}
 use Rattle.rinv_algebra.specs.Order.{block_order}
 use Rattle.rinv_defs.specs.Extended.{action_ideal}
-use Rattle.rinv_defs.specs.System.{Poly}
 use Rattle.rinv_parts.specs.Points.{AreStored}
 use Rattle.rinv_parts.proofs.Stored.{stored-normal, normal-over}
 use Rattle.rinv_reduction.specs.Localised.{all_count}

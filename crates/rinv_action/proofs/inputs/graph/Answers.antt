@@ -5,7 +5,7 @@ use Rattle.std.proofs.lemmas.List.FromFn.{length-range_with_len}
 use Rattle.rinv_sub.specs.Places.{ArePlaces}
 use Rattle.rinv_defs.specs.System.{Poly}
 use Rattle.rinv_text.specs.Told.{Told}
-use Rattle.rinv_text.proofs.SystemParts.{parts-of, between}
+use Rattle.rinv_text.proofs.SystemParts.{parts-of}
 use Rattle.rinv_parts.specs.Points.{AreStored, IsStoredIn}
 use Rattle.rinv_parts.proofs.Stored.{stored-range}
 use Rattle.rinv_reduction.specs.Localised.{all_count}

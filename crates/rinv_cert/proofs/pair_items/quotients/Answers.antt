@@ -1,2 +1,1 @@
-use Rattle.rinv_cert.proofs.Words.{quadruple-hit, quadruple-miss, quadruple-none}
 use Rattle.rinv_cert.proofs.pair_items.quotients.Goals as goal

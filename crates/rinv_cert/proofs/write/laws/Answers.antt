@@ -1,6 +1,6 @@
 use Rattle.std.proofs.Common.{◌≤◌, length, sym, ◌∙◌, arith}
 use Rattle.rinv_json.specs.Written.{poly_data, list_data}
-use Rattle.rinv_cert.proofs.Written.{one_more, no_name, no_law}
+use Rattle.rinv_cert.proofs.Written.{no_law}
 use Rattle.rinv_cert.proofs.write.laws.Goals as goal
 
 pub returns : goal.returns

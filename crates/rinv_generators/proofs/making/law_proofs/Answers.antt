@@ -1,4 +1,4 @@
-use Rattle.std.proofs.Common.{◌⊎◌, ℕ, subst}
+use Rattle.std.proofs.Common.{◌⊎◌, subst}
 use Rattle.rinv_laws.specs.Faults.{LawStopsSo, TestMeets}
 use Rattle.rinv_laws.specs.Proofs.{ProofsMeet}
 use Rattle.rinv_gens.specs.declared.kinds.Phase.TheVariants.{Laws}

@@ -1,4 +1,3 @@
-use Rattle.std.proofs.Common.{subst, sym, subst₂}
 use Rattle.rinv_generators.proofs.making.made_for.Goals as goal
 
 pub returns-clause-made : goal.returns-clause-made

@@ -1,5 +1,4 @@
-use Rattle.std.proofs.Common.{◌≡◌, ◌∙◌, false, refl, sym}
-use Rattle.rinv_algebra.specs.Residue.{residue_ops}
+use Rattle.std.proofs.Common.{◌≡◌, ◌∙◌, false, refl}
 use Rattle.rinv_algebra.specs.Polynomial.{is_zero}
 use Rattle.rinv_gens.proofs.Apart.{apart-answer, lead-over, nonzero-over, numerator-nonzero}
 use Rattle.rinv_gens.proofs.comparing.are_apart.Goals as goal

@@ -1,4 +1,4 @@
-use Rattle.std.proofs.Common.{◌≡◌, ◌+◌, ℕ, get_or, arith}
+use Rattle.std.proofs.Common.{◌≡◌, ◌+◌, arith}
 use Rattle.rinv_gens.proofs.Apart.{products-apart}
 use Rattle.rinv_gens.proofs.comparing.are_products_apart.Goals as goal
 

@@ -1,4 +1,4 @@
-use Rattle.std.proofs.Common.{◌≡◌, ◌<◌, ◌≤◌, ℕ, length, arith}
+use Rattle.std.proofs.Common.{◌≡◌, ◌<◌, ◌≤◌, arith}
 use Rattle.rinv_gens.proofs.SearchedTerms.{compared-equal, compared-other, found-coefficient, found-element, none-found, passed-more}
 use Rattle.rinv_gens.proofs.constants.coefficient_at.Goals as goal
 

@@ -1,6 +1,4 @@
-use Rattle.std.proofs.Common.{◌≡◌, ◌∙◌, refl, sym, subst}
-use Rattle.rinv_algebra.specs.Ring.{IsSame}
-use Rattle.rinv_algebra.specs.Residue.{residue_ops}
+use Rattle.std.proofs.Common.{◌≡◌, ◌∙◌, refl, sym}
 use Rattle.rinv_gens.proofs.NumberValues.{number-found, number-missed}
 use Rattle.rinv_gens.proofs.constants.constant_of.Goals as goal
 

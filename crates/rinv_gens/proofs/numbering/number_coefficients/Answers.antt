@@ -1,11 +1,10 @@
-use Rattle.std.proofs.Common.{◌≡◌, ◌<◌, ◌≤◌, ◌∙◌, ℕ, List, [], length, get_or, map, take, drop, ◌+◌, ap, subst, arith}
+use Rattle.std.proofs.Common.{◌≡◌, ◌<◌, ◌≤◌, ◌∙◌, List, [], length, get_or, map, take, drop, ◌+◌, ap, subst, arith}
 use Rattle.std.specs.List.{AllZip}
 use Rattle.std.proofs.lemmas.List.{take_all}
 use Rattle.std.proofs.lemmas.List.Elements.{All-nil}
 use Rattle.std.proofs.lemmas.Result.{err_from_is_err_and}
 use Rattle.rinv_frac.specs.Fractions.{IsStored}
 use Rattle.rinv_defs.specs.Extended.{Relation}
-use Rattle.rinv_defs.specs.Invariant.{Fraction}
 use Rattle.rinv_coefficients.specs.Coefficients.{coefficients, new_values}
 use Rattle.rinv_coefficients.specs.Ties.{Ties}
 use Rattle.rinv_gens.proofs.Tied.{relations-more}

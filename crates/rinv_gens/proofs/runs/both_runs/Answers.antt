@@ -1,7 +1,6 @@
 use Rattle.std.proofs.Common.{◌≡◌, ◌∙◌, ◌++◌, List, ap, inl, subst}
 use Rattle.rinv_groebner.specs.Journal.{Entry}
 use Rattle.rinv_buch.specs.Causes.{StopsSo}
-use Rattle.rinv_buch.specs.Kinds.{Halted}
 use Rattle.rinv_action.specs.Action.{HaltsInAction}
 use Rattle.rinv_gens.proofs.runs.both_runs.Goals as goal
 

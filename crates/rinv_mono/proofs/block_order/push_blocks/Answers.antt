@@ -1,4 +1,4 @@
-use Rattle.std.proofs.Common.{◌≡◌, ◌∙◌, ◌≤◌, ◌-◌, ◌+◌, ◌++◌, ℕ, List, get_or, length, drop, take, ap, arith}
+use Rattle.std.proofs.Common.{◌≡◌, ◌∙◌, ◌≤◌, ◌-◌, ◌+◌, ◌++◌, ℕ, List, get_or, drop, take, ap, arith}
 use Rattle.rinv_algebra.specs.BlockEnds.{sizes_from}
 use Rattle.rinv_algebra.specs.Ranks.{block_rank, graded_rank}
 use Rattle.rinv_mono.proofs.BlockLoop.{begins-le, rises-on, last-on, ends-le}

@@ -1,4 +1,4 @@
-use Rattle.std.proofs.Common.{◌≡◌, ◌≤◌, ◌-◌, ◌∙◌, ap₂, take, subst, arith}
+use Rattle.std.proofs.Common.{◌≡◌, ◌≤◌, ◌-◌, ◌∙◌, ap₂, take, arith}
 use Rattle.rinv_algebra.specs.BlockEnds.{last_from}
 use Rattle.rinv_mono.proofs.Degrees.{part-le, part-degree}
 use Rattle.rinv_mono.proofs.sums.degree_between.Goals as goal

@@ -1,4 +1,4 @@
-use Rattle.std.proofs.Common.{◌≡◌, ℕ, List, map, length, get_or, arith, subst}
+use Rattle.std.proofs.Common.{◌≡◌, ℕ, List, map, get_or, subst}
 use Rattle.std.proofs.lemmas.List.{take_all, get_or_default}
 use Rattle.rinv_algebra.specs.Residue.{residue_ops}
 use Rattle.rinv_algebra.specs.Polynomial.{constant}

@@ -1,4 +1,4 @@
-use Rattle.std.proofs.Common.{arith, [], ◌++◌, length, ◌≤◌}
+use Rattle.std.proofs.Common.{arith, [], ◌++◌, ◌≤◌}
 use Rattle.std.proofs.lemmas.List.{take_all}
 use Rattle.std.proofs.lemmas.List.Elements.{All-nil}
 use Rattle.rinv_algebra.specs.Polynomial.{product}

@@ -1,4 +1,4 @@
-use Rattle.std.proofs.Common.{◌≡◌, ◌<◌, ◌≤◌, List, ℕ, get_or, length, map, subst}
+use Rattle.std.proofs.Common.{◌≡◌, ◌<◌, ◌≤◌, get_or, length, map, subst}
 use Rattle.std.proofs.lemmas.List.{take_all}
 use Rattle.rinv_soundness.specs.Rewriting.{SymbolPoly}
 use Rattle.rinv_rewrite.proofs.DownMonomials.{monomials-more}
