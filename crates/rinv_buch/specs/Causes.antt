@@ -1,5 +1,5 @@
 -- Why Buchberger's algorithm halts.
-use Rattle.std.specs.Prelude.{◌≡◌, ℕ, ◌<◌, ◌⊎◌, Bool, false, List, [], get_or, IsTrue, ⊤}
+use Rattle.std.specs.Prelude.{◌≡◌, ℕ, ◌<◌, ◌⊎◌, Bool, false, List, [], get_or, IsTrue, ⊤, ◌≤◌}
 use Rattle.std.specs.declared.cmp.Ordering.{Ordering}
 use Rattle.rinv_algebra.specs.Ring.{RingOps}
 use Rattle.rinv_algebra.specs.Monomial.{total_degree, max_degree}
@@ -19,13 +19,16 @@ use Rattle.rinv_buch.specs.declared.kinds.Stop.{Stop}
 use Rattle.rinv_buch.specs.declared.kinds.Stop.TheVariants.{Incomplete, NoMemory}
 use Rattle.rinv_buch.specs.Kinds.{Halted}
 use Rattle.rinv_buch.specs.Spent.{SpendsOn}
+use Rattle.rinv_div.specs.Budgets.{HasStepLeft}
+use Rattle.rinv_poly.specs.declared.polynomial_ring.PolyRing.{PolyRing}
 
--- a pair may still be taken, and a step
+-- a pair may still be taken
 abbrev pub HasPairLeft : Budget → Type 0
 HasPairLeft b = b.endless ≡ false → b.pairs_spent < b.pairs
 
-abbrev pub HasStepLeft : Budget → Type 0
-HasStepLeft b = b.endless ≡ false → b.steps_spent < b.steps
+-- none may
+abbrev pub IsOutOfPairs : Budget → Type 0
+IsOutOfPairs b = (b.endless ≡ false) × (b.pairs ≤ b.pairs_spent)
 
 module _ {E : Type 0} (o : RingOps E) (cmp : List ℕ → List ℕ → Ordering) where
   -- the leading monomials of an open pair have these degrees, and their least common multiple is over the limit
@@ -80,3 +83,9 @@ module _ {E : Type 0} (o : RingOps E) (is_element : E → Bool) (too_high : Ring
 abbrev pub StopsSo : {R E : Type 0} → (Halted E → Type 0) → Stop R E → Type 0
 StopsSo P (Incomplete h) = P h
 StopsSo P NoMemory = ⊤
+
+-- The same as contracts name it, of a ring and an order: `ops`, `is_element`, `too_high` and `cmp` are theirs.
+
+-- the algorithm halts on the polynomials given
+abbrev pub HaltsOn : {R E O : Type 0} → (R → RingOps E) → (R → E → Bool) → (R → RingOp → E → E → ℕ → ℕ → Type 0) → (O → List ℕ → List ℕ → Ordering) → PolyRing R E → O → List (Polynomial E) → Budget → Budget → Stop R E → Type 0
+HaltsOn ops is_element too_high cmp ring order given before after stop = StopsSo (Halts (ops ring.coeffs) (is_element ring.coeffs) (too_high ring.coeffs) ring.vars (cmp order) given before after) stop

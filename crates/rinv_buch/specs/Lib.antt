@@ -2,6 +2,8 @@ pub mod Kinds
 pub mod Spent
 pub mod Elements
 pub mod Causes
+pub mod SPolynomials
 pub mod Halting
 pub mod Runs
+pub mod Bases
 pub mod Reducing

@@ -1,17 +1,23 @@
 -- How the reduced basis is made: which elements are kept, and the degrees that making others of them may answer.
-use Rattle.std.specs.Prelude.{◌≡◌, ℕ, ◌<◌, ◌⊎◌, Bool, not, ◌&&◌, List, [], take, filter, length, get_or, remove, IsTrue, IsFalse}
+use Rattle.std.specs.Prelude.{◌≡◌, ℕ, ◌<◌, ◌⊎◌, Bool, not, ◌&&◌, List, [], take, filter, length, get_or, remove, IsTrue, IsFalse, map, All}
 use Rattle.std.specs.List.{list_any, range_with_len}
 use Rattle.std.specs.declared.cmp.Ordering.{Ordering}
+use Rattle.std.specs.declared.cmp.Ordering.TheVariants.{Less}
 use Rattle.rinv_algebra.specs.Ring.{RingOps, IsSame}
 use Rattle.rinv_algebra.specs.Monomial.{divides, same_monomial}
 use Rattle.rinv_algebra.specs.Polynomial.{Polynomial}
 use Rattle.rinv_algebra.specs.Normal.{IsNormal}
 use Rattle.rinv_algebra.specs.Leading.{leading_monomial, leading_coefficient}
 use Rattle.rinv_groebner.specs.Division.{Step, IsDivision}
-use Rattle.rinv_groebner.specs.Reduced.{kept}
+use Rattle.rinv_groebner.specs.Reduced.{kept, IsReducedGroebnerBasis, Ascend, IsMadeAt}
 use Rattle.rinv_ring.specs.Operation.{RingOp}
 use Rattle.rinv_poly.specs.Faults.{MultipleMeets}
 use Rattle.rinv_div.specs.Stops.{StepsMeet}
+use Rattle.std.specs.Global.{Vec}
+use Rattle.rinv_poly.specs.declared.polynomial_ring.PolyRing.{PolyRing}
+use Rattle.rinv_ring.specs.declared.fault.RingFault.{RingFault}
+use Rattle.rinv_ring.specs.Fault.{DegreesMeet}
+use Rattle.rinv_buch.specs.declared.elements.Elements.{Elements}
 
 -- whether no monomial of the list properly divides the one at a place, and no earlier one is the same
 abbrev pub is_kept_place : List (List ℕ) → ℕ → Bool
@@ -52,3 +58,61 @@ module _ {E : Type 0} (o : RingOps E) (is_element : E → Bool) (too_high : Ring
     pub place : ℕ
     pub inside : place < length (kept o cmp hs)
     pub meets : MakingMeets (kept o cmp hs) place x y
+
+-- The same as contracts name it, of a ring and an order: `ops`, `is_element`, `too_high` and `cmp` are theirs.
+
+-- a reduced Gröbner basis of the ideal of fs
+abbrev pub IsReducedFor : {R E O : Type 0} → (R → RingOps E) → (O → List ℕ → List ℕ → Ordering) → PolyRing R E → O → List (Polynomial E) → Vec (Polynomial E) → Type 0
+IsReducedFor ops cmp ring order fs gs = IsReducedGroebnerBasis (ops ring.coeffs) (cmp order) ring.vars fs gs.items
+
+-- the leading monomials ascend
+abbrev pub AscendBy : {R E O : Type 0} → (R → RingOps E) → (O → List ℕ → List ℕ → Ordering) → PolyRing R E → O → Vec (Polynomial E) → Type 0
+AscendBy ops cmp ring order gs = Ascend (ops ring.coeffs) (cmp order) gs.items
+
+-- the places of the elements that are kept
+abbrev pub AreKeptPlaces : {R E O : Type 0} → (R → RingOps E) → (O → List ℕ → List ℕ → Ordering) → PolyRing R E → O → List (Polynomial E) → Vec ℕ → Type 0
+AreKeptPlaces ops cmp ring order hs places = places.items ≡ kept_places (map (leading_monomial (ops ring.coeffs) (cmp order)) hs)
+
+-- what stands there
+abbrev pub StandKept : {R E O : Type 0} → (R → RingOps E) → (O → List ℕ → List ℕ → Ordering) → PolyRing R E → O → List (Polynomial E) → Vec ℕ → Type 0
+StandKept ops cmp ring order hs places = map (λ k. get_or hs k []) places.items ≡ kept (ops ring.coeffs) (cmp order) hs
+
+-- the elements are those that are kept
+abbrev pub AreKept : {R E O : Type 0} → (R → RingOps E) → (O → List ℕ → List ℕ → Ordering) → PolyRing R E → O → List (Polynomial E) → Elements R E → Type 0
+AreKept ops cmp ring order hs es = es.polys.items ≡ kept (ops ring.coeffs) (cmp order) hs
+
+-- no leading monomial divides that of another element
+abbrev pub LeadsAreApart : {R E O : Type 0} → (R → RingOps E) → (O → List ℕ → List ℕ → Ordering) → PolyRing R E → O → Elements R E → Type 0
+LeadsAreApart ops cmp ring order es = AreLeadsApart (ops ring.coeffs) (cmp order) es.polys.items
+
+-- g is made of the element at the place
+abbrev pub MadeAt : {R E O : Type 0} → (R → RingOps E) → (O → List ℕ → List ℕ → Ordering) → PolyRing R E → O → Elements R E → ℕ → Polynomial E → Type 0
+MadeAt ops cmp ring order es place g = IsMadeAt (ops ring.coeffs) (cmp order) es.polys.items place g
+
+-- no element of the list has the leading monomial of g,
+abbrev pub LeadIsNew : {R E O : Type 0} → (R → RingOps E) → (O → List ℕ → List ℕ → Ordering) → PolyRing R E → O → Polynomial E → List (Polynomial E) → Type 0
+LeadIsNew ops cmp ring order g hs = All (λ h. ¬ (leading_monomial (ops ring.coeffs) (cmp order) h ≡ leading_monomial (ops ring.coeffs) (cmp order) g)) hs
+
+-- or m as it
+abbrev pub IsNoLead : {R E O : Type 0} → (R → RingOps E) → (O → List ℕ → List ℕ → Ordering) → PolyRing R E → O → List ℕ → List (Polynomial E) → Type 0
+IsNoLead ops cmp ring order m hs = All (λ h. ¬ (leading_monomial (ops ring.coeffs) (cmp order) h ≡ m)) hs
+
+-- all leading monomials are below m,
+abbrev pub LeadsBelow : {R E O : Type 0} → (R → RingOps E) → (O → List ℕ → List ℕ → Ordering) → PolyRing R E → O → List ℕ → List (Polynomial E) → Type 0
+LeadsBelow ops cmp ring order m hs = All (λ h. cmp order (leading_monomial (ops ring.coeffs) (cmp order) h) m ≡ Less) hs
+
+-- or above it
+abbrev pub LeadsAbove : {R E O : Type 0} → (R → RingOps E) → (O → List ℕ → List ℕ → Ordering) → PolyRing R E → O → List ℕ → List (Polynomial E) → Type 0
+LeadsAbove ops cmp ring order m hs = All (λ h. cmp order m (leading_monomial (ops ring.coeffs) (cmp order) h) ≡ Less) hs
+
+-- the degrees of the fault are met as the basis is reduced,
+abbrev pub ReducingTooHigh : {R E O : Type 0} → (R → RingOps E) → (R → E → Bool) → (R → RingOp → E → E → ℕ → ℕ → Type 0) → (O → List ℕ → List ℕ → Ordering) → PolyRing R E → O → List (Polynomial E) → RingFault → Type 0
+ReducingTooHigh ops is_element too_high cmp ring order hs fault = DegreesMeet (ReducingMeets (ops ring.coeffs) (is_element ring.coeffs) (too_high ring.coeffs) ring.vars (cmp order) hs) fault
+
+-- as an element is made,
+abbrev pub MakingTooHigh : {R E O : Type 0} → (R → RingOps E) → (R → E → Bool) → (R → RingOp → E → E → ℕ → ℕ → Type 0) → (O → List ℕ → List ℕ → Ordering) → PolyRing R E → O → Elements R E → ℕ → RingFault → Type 0
+MakingTooHigh ops is_element too_high cmp ring order es place fault = DegreesMeet (MakingMeets (ops ring.coeffs) (is_element ring.coeffs) (too_high ring.coeffs) ring.vars (cmp order) es.polys.items place) fault
+
+-- or as f is made monic
+abbrev pub MonicTooHigh : {R E O : Type 0} → (R → RingOps E) → (R → E → Bool) → (R → RingOp → E → E → ℕ → ℕ → Type 0) → (O → List ℕ → List ℕ → Ordering) → PolyRing R E → O → Polynomial E → RingFault → Type 0
+MonicTooHigh ops is_element too_high cmp ring order f fault = DegreesMeet (MonicMeets (ops ring.coeffs) (is_element ring.coeffs) (too_high ring.coeffs) ring.vars (cmp order) f) fault

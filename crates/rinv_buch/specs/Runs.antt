@@ -1,5 +1,6 @@
 -- What becomes of a pair, and a run of the algorithm between two pairs.
-use Rattle.std.specs.Prelude.{◌≡◌, ℕ, ◌+◌, ◌<◌, ◌≤◌, ◌⊎◌, Bool, true, false, List, [], ◌∷◌, ◌++◌, length, get_or, map, IsTrue, IsFalse, ⊤}
+use Rattle.rinv_algebra.specs.Normal.{IsNormal}
+use Rattle.std.specs.Prelude.{◌≡◌, ℕ, ◌+◌, ◌<◌, ◌≤◌, ◌⊎◌, Bool, true, false, List, [], ◌∷◌, ◌++◌, length, get_or, map, IsTrue, IsFalse, ⊤, All, Result, IfOk, IfErr}
 use Rattle.std.specs.declared.cmp.Ordering.{Ordering}
 use Rattle.rinv_algebra.specs.Ring.{RingOps}
 use Rattle.rinv_algebra.specs.Polynomial.{Polynomial, is_zero}
@@ -20,6 +21,15 @@ use Rattle.rinv_buch.specs.declared.run.Run.{Run}
 use Rattle.rinv_buch.specs.Kinds.{journal_of}
 use Rattle.rinv_buch.specs.Causes.{SPolynomialMeets}
 use Rattle.rinv_buch.specs.Elements.{ArePrepared}
+use Rattle.rinv_poly.specs.declared.polynomial_ring.PolyRing.{PolyRing}
+use Rattle.rinv_pairs.specs.declared.queue.Pair.{Pair}
+use Rattle.rinv_div.specs.Stops.{StopsBy}
+use Rattle.rinv_div.specs.declared.stop.DivStop.{DivStop}
+use Rattle.rinv_buch.specs.Spent.{SpendsBoth, SpendsOn}
+use Rattle.rinv_buch.specs.Causes.{Halts, StopsSo}
+use Rattle.rinv_buch.specs.Halting.{HaltsAfter}
+use Rattle.rinv_buch.specs.declared.elements.Elements.{Elements}
+use Rattle.rinv_buch.specs.declared.kinds.Stop.{Stop}
 
 -- the rest of a pair has a property
 abbrev pub SettlesWith : {R E : Type 0} → (Polynomial E → Type 0) → Outcome R E → Type 0
@@ -126,3 +136,64 @@ pub record Turns {R E S : Type 0} (o : RingOps E) (cmp : List ℕ → List ℕ �
   pub polys : (after.elements.polys.items ≡ before.elements.polys.items) ⊎ Grows o cmp before.elements.polys.items after.elements.polys.items
   pub taken : AreTaken (pairs_of (journal_of after.journal.items)) queue_after
   pub order : queue_after.order ≡ queue.order
+
+-- The same as contracts name it, of a ring and an order: `ops`, `is_element`, `too_high` and `cmp` are theirs.
+
+-- a run on the polynomials given
+abbrev pub IsRunOn : {R E O S : Type 0} → (R → RingOps E) → (R → E → Bool) → (O → List ℕ → List ℕ → Ordering) → PolyRing R E → O → List (Polynomial E) → Pairs S → Run R E → Type 0
+IsRunOn ops is_element cmp ring order given queue run = IsRun (ops ring.coeffs) (is_element ring.coeffs) ring.vars (cmp order) given queue run
+
+-- the pair was taken from the queue, and has no entry yet
+abbrev pub TakesPair : {R E O S : Type 0} → (R → RingOps E) → (R → E → Bool) → (O → List ℕ → List ℕ → Ordering) → PolyRing R E → O → Pair → Run R E → Pairs S → Type 0
+TakesPair ops is_element cmp ring order pair run queue = IsTaking (ops ring.coeffs) (is_element ring.coeffs) ring.vars (cmp order) pair.first pair.second run queue
+
+-- the pair has no entry yet
+abbrev pub IsOpenIn : {R E O : Type 0} → (R → RingOps E) → (O → List ℕ → List ℕ → Ordering) → PolyRing R E → O → Run R E → Pair → Type 0
+IsOpenIn ops cmp ring order run pair = IsOpen (ops ring.coeffs) (cmp order) (journal_of run.journal.items) run.elements.polys.items pair.first pair.second
+
+-- what became of the pair
+abbrev pub SettlesPair : {R E O : Type 0} → (R → RingOps E) → (O → List ℕ → List ℕ → Ordering) → PolyRing R E → O → Elements R E → Pair → Outcome R E → Type 0
+SettlesPair ops cmp ring order es pair outcome = Settles (ops ring.coeffs) (cmp order) es.polys.items pair.first pair.second outcome
+
+-- a third element settles it, or there is none
+abbrev pub SettlesIn : {R E O : Type 0} → (R → RingOps E) → (O → List ℕ → List ℕ → Ordering) → PolyRing R E → O → Run R E → Pair → Outcome R E → Type 0
+SettlesIn ops cmp ring order run pair outcome = SettlesByThird (ops ring.coeffs) (cmp order) (journal_of run.journal.items) run.elements.polys.items pair.first pair.second outcome
+
+-- no third element settles the pair
+abbrev pub HasNoThird : {S : Type 0} → Pairs S → Pair → Type 0
+HasNoThird queue pair = (by : ℕ) → HasThird queue pair.first pair.second by → ⊥
+
+-- settling the pair stops: for want of steps, or at a degree
+abbrev pub StopsAt : {R E O : Type 0} → (R → RingOps E) → (R → E → Bool) → (R → RingOp → E → E → ℕ → ℕ → Type 0) → (O → List ℕ → List ℕ → Ordering) → PolyRing R E → O → Elements R E → Pair → Budget → Budget → DivStop R E → Type 0
+StopsAt ops is_element too_high cmp ring order es pair before after stop = StopsBy (RunsOutAt (ops ring.coeffs) (cmp order) es.polys.items pair.first pair.second before after) (MeetsDegreeAt (ops ring.coeffs) (is_element ring.coeffs) (too_high ring.coeffs) ring.vars (cmp order) es.polys.items pair.first pair.second before after) stop
+
+-- an entry for the pair is appended
+abbrev pub EntersPair : {R E O : Type 0} → (R → RingOps E) → (R → E → Bool) → (O → List ℕ → List ℕ → Ordering) → PolyRing R E → O → Pair → Outcome R E → Run R E → Run R E → Type 0
+EntersPair ops is_element cmp ring order pair outcome before after = Enters (ops ring.coeffs) (is_element ring.coeffs) ring.vars (cmp order) pair.first pair.second (steps_with outcome) before after
+
+-- the list grows, or stays
+abbrev pub GrowsWhere : {R E O : Type 0} → (R → RingOps E) → (O → List ℕ → List ℕ → Ordering) → PolyRing R E → O → Run R E → Run R E → Bool → Type 0
+GrowsWhere ops cmp ring order before after grown = GrowsIf (ops ring.coeffs) (cmp order) grown before.elements.polys.items after.elements.polys.items
+
+-- a turn, by what became of its pair
+abbrev pub TurnsBy : {R E O S : Type 0} → (R → RingOps E) → (O → List ℕ → List ℕ → Ordering) → PolyRing R E → O → Outcome R E → Run R E → Pairs S → Pairs S → Run R E → Type 0
+TurnsBy ops cmp ring order outcome before queue queue_after after = Turns (ops ring.coeffs) (cmp order) (steps_with outcome) before queue after queue_after
+
+-- a turn, which spends a pair
+abbrev pub TurnsOnce : {R E O S : Type 0} → (R → RingOps E) → (O → List ℕ → List ℕ → Ordering) → PolyRing R E → O → Budget → Budget → Run R E → Pairs S → Pairs S → Run R E → Type 0
+TurnsOnce ops cmp ring order spent spent_after before queue queue_after after = (count : ℕ) × SpendsBoth 1 count spent spent_after × Turns (ops ring.coeffs) (cmp order) count before queue after queue_after
+
+-- on whatever was given the run was, its result is a run
+abbrev pub RunsOn : {R E O S : Type 0} → (R → RingOps E) → (R → E → Bool) → (O → List ℕ → List ℕ → Ordering) → PolyRing R E → O → Run R E → Pairs S → Result (Run R E) (Stop R E) → Type 0
+RunsOn {E = E} ops is_element cmp ring order run queue result =
+    (given : List (Polynomial E)) → All (IsNormal (ops ring.coeffs) (is_element ring.coeffs) ring.vars) given → Journal (ops ring.coeffs) (cmp order) given (journal_of run.journal.items) run.elements.polys.items → IsSparing (ops ring.coeffs) (cmp order) given (journal_of run.journal.items) → IfOk result (IsRun (ops ring.coeffs) (is_element ring.coeffs) ring.vars (cmp order) given queue)
+
+-- or the algorithm halts on it
+abbrev pub HaltsTurn : {R E O : Type 0} → (R → RingOps E) → (R → E → Bool) → (R → RingOp → E → E → ℕ → ℕ → Type 0) → (O → List ℕ → List ℕ → Ordering) → PolyRing R E → O → Run R E → Budget → Budget → Result (Run R E) (Stop R E) → Type 0
+HaltsTurn {E = E} ops is_element too_high cmp ring order run spent spent_after result =
+    (given : List (Polynomial E)) (start : Budget) → All (IsNormal (ops ring.coeffs) (is_element ring.coeffs) ring.vars) given → Journal (ops ring.coeffs) (cmp order) given (journal_of run.journal.items) run.elements.polys.items → IsSparing (ops ring.coeffs) (cmp order) given (journal_of run.journal.items) → SpendsOn (journal_of run.journal.items) 0 start spent → IfErr result (StopsSo (Halts (ops ring.coeffs) (is_element ring.coeffs) (too_high ring.coeffs) ring.vars (cmp order) given start spent_after))
+
+-- or halts after the entry of the pair
+abbrev pub HaltsEntered : {R E O : Type 0} → (R → RingOps E) → (R → E → Bool) → (O → List ℕ → List ℕ → Ordering) → PolyRing R E → O → Run R E → Outcome R E → Result (Run R E) (Stop R E) → Type 0
+HaltsEntered {E = E} ops is_element cmp ring order run outcome result =
+    (given : List (Polynomial E)) → All (IsNormal (ops ring.coeffs) (is_element ring.coeffs) ring.vars) given → Journal (ops ring.coeffs) (cmp order) given (journal_of run.journal.items) run.elements.polys.items → IsSparing (ops ring.coeffs) (cmp order) given (journal_of run.journal.items) → IfErr result (StopsSo (HaltsAfter (ops ring.coeffs) (cmp order) given (journal_of run.journal.items) (steps_with outcome)))

@@ -1,17 +1,13 @@
 //! Buchberger's algorithm: pair after pair, until each has its entry in the journal.
 
-ghost use Rattle.std.specs.Prelude.{◌≡◌, ℕ, List, All, IfOk, IfErr};
-ghost use Rattle.rinv_algebra.specs.Polynomial.{Polynomial};
-ghost use Rattle.rinv_algebra.specs.Normal.{IsNormal};
-ghost use Rattle.rinv_groebner.specs.Journal.{Journal, IsComplete};
-ghost use Rattle.rinv_groebner.specs.Basis.{IsGroebnerBasis, AreNonzero};
-ghost use Rattle.rinv_div.specs.declared.budget.Budget.{Budget};
-ghost use Rattle.rinv_groebner.specs.Sparing.{IsSparing};
-ghost use Rattle.rinv_buch.specs.Causes.{Halts, StopsSo};
-ghost use Rattle.rinv_buch.specs.Halting.{HaltsAfter};
+ghost use Rattle.std.specs.Prelude.{◌≡◌, IfOk, IfErr};
+ghost use Rattle.rinv_groebner.specs.Basis.{AreNonzero};
 ghost use Rattle.rinv_buch.specs.Kinds.{journal_of};
-ghost use Rattle.rinv_buch.specs.Runs.{IsRun, IsTaking, Turns, Settles, SettlesBy, SettlesWith, steps_with};
-ghost use Rattle.rinv_buch.specs.Spent.{IsKept, KeepsLimits, SpendsBoth, SpendsOn};
+ghost use Rattle.rinv_buch.specs.Runs.{SettlesBy, SettlesWith, HaltsEntered, HaltsTurn, RunsOn, SettlesPair, TakesPair, TurnsBy, TurnsOnce};
+ghost use Rattle.rinv_buch.specs.Spent.{IsKept, KeepsLimits, SpendsOn};
+ghost use Rattle.rinv_div.specs.Polynomials.{AreOf, IsOf};
+ghost use Rattle.rinv_buch.specs.Causes.{HaltsOn};
+ghost use Rattle.rinv_buch.specs.Bases.{HasAllPairs, IsBasisFor, IsMadeFrom, SparesPairs};
 
 use crate::elements::Elements;
 use crate::halting::{halted_at_pair, halted_idle, halted_in_division};
@@ -35,17 +31,17 @@ pub fn basis<F: Field, O: MonoOrder>(
     order: &O,
     budget: &mut Budget,
 ) -> Result<Basis<F>, Stop<F>>
-    requires given { All (IsNormal (F.ops ring.now.coeffs) (F.is_element ring.now.coeffs) ring.now.vars) given.now }
+    requires given { AreOf F.ops F.is_element ring.now given.now }
     requires suits { O.fits order.now ring.now.vars }
     requires within { IsKept budget.old }
-    ensures journal { IfOk result (λ b. Journal (F.ops ring.now.coeffs) (O.cmp order.now) given.now b.journal b.polys) }
-    ensures sparing { IfOk result (λ b. IsSparing (F.ops ring.now.coeffs) (O.cmp order.now) given.now b.journal) }
-    ensures complete { IfOk result (λ b. IsComplete (F.ops ring.now.coeffs) (O.cmp order.now) b.journal b.polys) }
+    ensures journal { IfOk result (IsMadeFrom F.ops O.cmp ring.now order.now given.now) }
+    ensures sparing { IfOk result (SparesPairs F.ops O.cmp ring.now order.now given.now) }
+    ensures complete { IfOk result (HasAllPairs F.ops O.cmp ring.now order.now) }
     ensures spent { IfOk result (λ b. SpendsOn b.journal 0 budget.old budget.new) }
-    ensures polys { IfOk result (λ b. All (IsNormal (F.ops ring.now.coeffs) (F.is_element ring.now.coeffs) ring.now.vars) b.polys) }
+    ensures polys { IfOk result (λ b. AreOf F.ops F.is_element ring.now b.polys) }
     ensures nonzero { IfOk result (λ b. AreNonzero (F.ops ring.now.coeffs) b.polys) }
-    ensures groebner { IfOk result (λ b. IsGroebnerBasis (F.ops ring.now.coeffs) (O.cmp order.now) ring.now.vars given.now b.polys) }
-    ensures stop { IfErr result (StopsSo (Halts (F.ops ring.now.coeffs) (F.is_element ring.now.coeffs) (F.too_high ring.now.coeffs) ring.now.vars (O.cmp order.now) given.now budget.old budget.new)) }
+    ensures groebner { IfOk result (IsBasisFor F.ops O.cmp ring.now order.now given.now) }
+    ensures stop { IfErr result (HaltsOn F.ops F.is_element F.too_high O.cmp ring.now order.now given.now budget.old budget.new) }
     ensures limits { KeepsLimits budget.old budget.new }
     ensures still_within { IsKept budget.new }
 {
@@ -61,18 +57,18 @@ pub fn basis_by<F: Field, O: MonoOrder, S: MonoOrder>(
     selection: &S,
     budget: &mut Budget,
 ) -> Result<Basis<F>, Stop<F>>
-    requires given { All (IsNormal (F.ops ring.now.coeffs) (F.is_element ring.now.coeffs) ring.now.vars) given.now }
+    requires given { AreOf F.ops F.is_element ring.now given.now }
     requires suits { O.fits order.now ring.now.vars }
     requires selects { S.fits selection.now ring.now.vars }
     requires within { IsKept budget.old }
-    ensures journal { IfOk result (λ b. Journal (F.ops ring.now.coeffs) (O.cmp order.now) given.now b.journal b.polys) }
-    ensures sparing { IfOk result (λ b. IsSparing (F.ops ring.now.coeffs) (O.cmp order.now) given.now b.journal) }
-    ensures complete { IfOk result (λ b. IsComplete (F.ops ring.now.coeffs) (O.cmp order.now) b.journal b.polys) }
+    ensures journal { IfOk result (IsMadeFrom F.ops O.cmp ring.now order.now given.now) }
+    ensures sparing { IfOk result (SparesPairs F.ops O.cmp ring.now order.now given.now) }
+    ensures complete { IfOk result (HasAllPairs F.ops O.cmp ring.now order.now) }
     ensures spent { IfOk result (λ b. SpendsOn b.journal 0 budget.old budget.new) }
-    ensures polys { IfOk result (λ b. All (IsNormal (F.ops ring.now.coeffs) (F.is_element ring.now.coeffs) ring.now.vars) b.polys) }
+    ensures polys { IfOk result (λ b. AreOf F.ops F.is_element ring.now b.polys) }
     ensures nonzero { IfOk result (λ b. AreNonzero (F.ops ring.now.coeffs) b.polys) }
-    ensures groebner { IfOk result (λ b. IsGroebnerBasis (F.ops ring.now.coeffs) (O.cmp order.now) ring.now.vars given.now b.polys) }
-    ensures stop { IfErr result (StopsSo (Halts (F.ops ring.now.coeffs) (F.is_element ring.now.coeffs) (F.too_high ring.now.coeffs) ring.now.vars (O.cmp order.now) given.now budget.old budget.new)) }
+    ensures groebner { IfOk result (IsBasisFor F.ops O.cmp ring.now order.now given.now) }
+    ensures stop { IfErr result (HaltsOn F.ops F.is_element F.too_high O.cmp ring.now order.now given.now budget.old budget.new) }
     ensures limits { KeepsLimits budget.old budget.new }
     ensures still_within { IsKept budget.new }
 {
@@ -98,11 +94,11 @@ fn turn<F: Field, O: MonoOrder, S: MonoOrder>(
 ) -> Result<Run<F>, Stop<F>>
     requires suits { O.fits order.now ring.now.vars }
     requires selects { S.fits queue.old.order ring.now.vars }
-    requires taking { IsTaking (F.ops ring.now.coeffs) (F.is_element ring.now.coeffs) ring.now.vars (O.cmp order.now) pair.first pair.second run queue.old }
+    requires taking { TakesPair F.ops F.is_element O.cmp ring.now order.now pair run queue.old }
     requires within { IsKept budget.old }
-    ensures run { (given : List (Polynomial F.Elem)) → All (IsNormal (F.ops ring.now.coeffs) (F.is_element ring.now.coeffs) ring.now.vars) given → Journal (F.ops ring.now.coeffs) (O.cmp order.now) given (journal_of run.journal.items) run.elements.polys.items → IsSparing (F.ops ring.now.coeffs) (O.cmp order.now) given (journal_of run.journal.items) → IfOk result (IsRun (F.ops ring.now.coeffs) (F.is_element ring.now.coeffs) ring.now.vars (O.cmp order.now) given queue.new) }
-    ensures turns { IfOk result (λ r. (count : ℕ) × SpendsBoth 1 count budget.old budget.new × Turns (F.ops ring.now.coeffs) (O.cmp order.now) count run queue.old r queue.new) }
-    ensures stop { (given : List (Polynomial F.Elem)) (start : Budget) → All (IsNormal (F.ops ring.now.coeffs) (F.is_element ring.now.coeffs) ring.now.vars) given → Journal (F.ops ring.now.coeffs) (O.cmp order.now) given (journal_of run.journal.items) run.elements.polys.items → IsSparing (F.ops ring.now.coeffs) (O.cmp order.now) given (journal_of run.journal.items) → SpendsOn (journal_of run.journal.items) 0 start budget.old → IfErr result (StopsSo (Halts (F.ops ring.now.coeffs) (F.is_element ring.now.coeffs) (F.too_high ring.now.coeffs) ring.now.vars (O.cmp order.now) given start budget.new)) }
+    ensures run { RunsOn F.ops F.is_element O.cmp ring.now order.now run queue.new result }
+    ensures turns { IfOk result (TurnsOnce F.ops O.cmp ring.now order.now budget.old budget.new run queue.old queue.new) }
+    ensures stop { HaltsTurn F.ops F.is_element F.too_high O.cmp ring.now order.now run budget.old budget.new result }
     ensures limits { KeepsLimits budget.old budget.new }
     ensures still_within { IsKept budget.new }
 {
@@ -140,13 +136,13 @@ fn entered<F: Field, O: MonoOrder, S: MonoOrder>(
 ) -> Result<Run<F>, Stop<F>>
     requires suits { O.fits order.now ring.now.vars }
     requires selects { S.fits queue.old.order ring.now.vars }
-    requires taking { IsTaking (F.ops ring.now.coeffs) (F.is_element ring.now.coeffs) ring.now.vars (O.cmp order.now) pair.first pair.second run queue.old }
-    requires settled { Settles (F.ops ring.now.coeffs) (O.cmp order.now) run.elements.polys.items pair.first pair.second outcome }
+    requires taking { TakesPair F.ops F.is_element O.cmp ring.now order.now pair run queue.old }
+    requires settled { SettlesPair F.ops O.cmp ring.now order.now run.elements pair outcome }
     requires third { SettlesBy queue.old pair.first pair.second outcome }
-    requires rest { SettlesWith (IsNormal (F.ops ring.now.coeffs) (F.is_element ring.now.coeffs) ring.now.vars) outcome }
-    ensures run { (given : List (Polynomial F.Elem)) → All (IsNormal (F.ops ring.now.coeffs) (F.is_element ring.now.coeffs) ring.now.vars) given → Journal (F.ops ring.now.coeffs) (O.cmp order.now) given (journal_of run.journal.items) run.elements.polys.items → IsSparing (F.ops ring.now.coeffs) (O.cmp order.now) given (journal_of run.journal.items) → IfOk result (IsRun (F.ops ring.now.coeffs) (F.is_element ring.now.coeffs) ring.now.vars (O.cmp order.now) given queue.new) }
-    ensures turns { IfOk result (λ r. Turns (F.ops ring.now.coeffs) (O.cmp order.now) (steps_with outcome) run queue.old r queue.new) }
-    ensures stop { (given : List (Polynomial F.Elem)) → All (IsNormal (F.ops ring.now.coeffs) (F.is_element ring.now.coeffs) ring.now.vars) given → Journal (F.ops ring.now.coeffs) (O.cmp order.now) given (journal_of run.journal.items) run.elements.polys.items → IsSparing (F.ops ring.now.coeffs) (O.cmp order.now) given (journal_of run.journal.items) → IfErr result (StopsSo (HaltsAfter (F.ops ring.now.coeffs) (O.cmp order.now) given (journal_of run.journal.items) (steps_with outcome))) }
+    requires rest { SettlesWith (IsOf F.ops F.is_element ring.now) outcome }
+    ensures run { RunsOn F.ops F.is_element O.cmp ring.now order.now run queue.new result }
+    ensures turns { IfOk result (TurnsBy F.ops O.cmp ring.now order.now outcome run queue.old queue.new) }
+    ensures stop { HaltsEntered F.ops F.is_element O.cmp ring.now order.now run outcome result }
 {
     let added = place(run.elements.polys.len())?;
     if enter(ring, alloc, pair, outcome, order, &mut run)? {

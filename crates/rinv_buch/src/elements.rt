@@ -1,10 +1,9 @@
 //! The list of the algorithm, with what is prepared of each element: its leading monomial, and itself as a divisor.
 
-ghost use Rattle.std.specs.Prelude.{◌≡◌, ◌<◌, [], false, All, IfOk, OnOk};
+ghost use Rattle.std.specs.Prelude.{◌≡◌, [], false, IfOk, OnOk};
 ghost use Rattle.rinv_algebra.specs.Polynomial.{is_zero};
-ghost use Rattle.rinv_algebra.specs.Normal.{IsNormal};
-ghost use Rattle.rinv_groebner.specs.Journal.{nonzeros};
-ghost use Rattle.rinv_buch.specs.Elements.{ArePrepared, AddsElement};
+ghost use Rattle.rinv_buch.specs.Elements.{AreNonzeros, GainsElement, PreparedFor};
+ghost use Rattle.rinv_div.specs.Polynomials.{AreOf, IsOf};
 
 use rinv_div::Divisors;
 use rinv_mono::{Mono, MonoOrder};
@@ -42,11 +41,11 @@ impl<F: Field> Elements<F> {
         h: Poly<F>,
         order: &O,
     ) -> Result<(), NoMemory>
-        requires polynomial { IsNormal (F.ops ring.now.coeffs) (F.is_element ring.now.coeffs) ring.now.vars h }
+        requires polynomial { IsOf F.ops F.is_element ring.now h }
         requires nonzero { is_zero (F.ops ring.now.coeffs) h ≡ false }
         requires suits { O.fits order.now ring.now.vars }
-        requires prepared { ArePrepared (F.ops ring.now.coeffs) (F.is_element ring.now.coeffs) ring.now.vars (O.cmp order.now) self.old }
-        ensures { OnOk result (AddsElement (F.ops ring.now.coeffs) (F.is_element ring.now.coeffs) ring.now.vars (O.cmp order.now) h self.old self.new) }
+        requires prepared { PreparedFor F.ops F.is_element O.cmp ring.now order.now self.old }
+        ensures { OnOk result (GainsElement F.ops F.is_element O.cmp ring.now order.now h self.old self.new) }
     {
         let place = self.polys.len();
         self.divisors.push(ring, alloc, &h, order)?;
@@ -64,10 +63,10 @@ pub fn elements_of<F: Field, O: MonoOrder>(
     given: &[Poly<F>],
     order: &O,
 ) -> Result<Elements<F>, NoMemory>
-    requires given { All (IsNormal (F.ops ring.now.coeffs) (F.is_element ring.now.coeffs) ring.now.vars) given.now }
+    requires given { AreOf F.ops F.is_element ring.now given.now }
     requires suits { O.fits order.now ring.now.vars }
-    ensures prepared { IfOk result (ArePrepared (F.ops ring.now.coeffs) (F.is_element ring.now.coeffs) ring.now.vars (O.cmp order.now)) }
-    ensures polys { IfOk result (λ es. es.polys.items ≡ nonzeros (F.ops ring.now.coeffs) given.now) }
+    ensures prepared { IfOk result (PreparedFor F.ops F.is_element O.cmp ring.now order.now) }
+    ensures polys { IfOk result (AreNonzeros F.ops ring.now given.now) }
 {
     let mut elements = Elements::new(alloc);
     for f in given {

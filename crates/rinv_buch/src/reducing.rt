@@ -1,16 +1,13 @@
 //! The reduced Gröbner basis: elements whose leading monomials no other divides, each divided by the others and made monic.
 
-ghost use Rattle.std.specs.Prelude.{◌≡◌, ◌<◌, ◌≤◌, ℕ, List, [], ◌∷◌, length, get_or, map, take, drop, false, All, IfOk, IfErr, OnOk};
-ghost use Rattle.std.specs.declared.cmp.Ordering.TheVariants.{Less};
+ghost use Rattle.std.specs.Prelude.{◌≡◌, ◌<◌, ◌≤◌, ℕ, List, ◌∷◌, length, take, drop, false, All, IfOk, IfErr, OnOk};
 ghost use Rattle.std.specs.List.Sorted.{IsPermutation};
 ghost use Rattle.rinv_algebra.specs.Polynomial.{is_zero};
-ghost use Rattle.rinv_algebra.specs.Normal.{IsNormal};
-ghost use Rattle.rinv_algebra.specs.Leading.{leading_monomial};
-ghost use Rattle.rinv_groebner.specs.Basis.{IsGroebnerBasis};
-ghost use Rattle.rinv_groebner.specs.Reduced.{IsReducedGroebnerBasis, IsMadeAt, IsMonicOf, Ascend, kept};
-ghost use Rattle.rinv_ring.specs.Fault.{DegreesMeet};
-ghost use Rattle.rinv_buch.specs.Elements.{ArePrepared};
-ghost use Rattle.rinv_buch.specs.Reducing.{MakingMeets, MonicMeets, ReducingMeets, AreLeadsApart, is_kept_place, kept_places};
+ghost use Rattle.rinv_groebner.specs.Reduced.{IsMonicOf, Ascend};
+ghost use Rattle.rinv_buch.specs.Reducing.{is_kept_place, AreKept, AreKeptPlaces, AscendBy, IsNoLead, IsReducedFor, LeadIsNew, LeadsAbove, LeadsAreApart, LeadsBelow, MadeAt, MakingTooHigh, MonicTooHigh, ReducingTooHigh, StandKept};
+ghost use Rattle.rinv_div.specs.Polynomials.{AreOf, IsOf, NoneIsZero};
+ghost use Rattle.rinv_buch.specs.Bases.{IsBasisFor};
+ghost use Rattle.rinv_buch.specs.Elements.{PreparedFor};
 
 use crate::elements::Elements;
 use crate::kinds::Basis;
@@ -30,14 +27,14 @@ pub fn interreduce<F: Field, O: MonoOrder>(
     basis: &Basis<F>,
     order: &O,
 ) -> Result<Vec<Poly<F>>, RingFault>
-    requires polys { All (IsNormal (F.ops ring.now.coeffs) (F.is_element ring.now.coeffs) ring.now.vars) basis.now.polys }
-    requires nonzero { All (λ h. is_zero (F.ops ring.now.coeffs) h ≡ false) basis.now.polys }
-    requires groebner { IsGroebnerBasis (F.ops ring.now.coeffs) (O.cmp order.now) ring.now.vars basis.now.polys basis.now.polys }
+    requires polys { AreOf F.ops F.is_element ring.now basis.now.polys }
+    requires nonzero { NoneIsZero F.ops ring.now basis.now.polys }
+    requires groebner { IsBasisFor F.ops O.cmp ring.now order.now basis.now.polys basis.now }
     requires suits { O.fits order.now ring.now.vars }
-    ensures reduced { IfOk result (λ gs. IsReducedGroebnerBasis (F.ops ring.now.coeffs) (O.cmp order.now) ring.now.vars basis.now.polys gs.items) }
-    ensures ascending { IfOk result (λ gs. Ascend (F.ops ring.now.coeffs) (O.cmp order.now) gs.items) }
-    ensures normal { IfOk result (λ gs. All (IsNormal (F.ops ring.now.coeffs) (F.is_element ring.now.coeffs) ring.now.vars) gs.items) }
-    ensures degree { IfErr result (DegreesMeet (ReducingMeets (F.ops ring.now.coeffs) (F.is_element ring.now.coeffs) (F.too_high ring.now.coeffs) ring.now.vars (O.cmp order.now) basis.now.polys)) }
+    ensures reduced { IfOk result (IsReducedFor F.ops O.cmp ring.now order.now basis.now.polys) }
+    ensures ascending { IfOk result (AscendBy F.ops O.cmp ring.now order.now) }
+    ensures normal { IfOk result (λ gs. AreOf F.ops F.is_element ring.now gs.items) }
+    ensures degree { IfErr result (ReducingTooHigh F.ops F.is_element F.too_high O.cmp ring.now order.now basis.now.polys) }
 {
     let mut kept = kept_elements(ring, alloc, &basis.polys, order)?;
     let mut made = Vec::with_capacity(alloc, kept.polys.len())?;
@@ -55,12 +52,12 @@ pub fn kept_places<F: Field, O: MonoOrder>(
     polys: &[Poly<F>],
     order: &O,
 ) -> Result<Vec<usize>, NoMemory>
-    requires polys { All (IsNormal (F.ops ring.now.coeffs) (F.is_element ring.now.coeffs) ring.now.vars) polys.now }
-    requires nonzero { All (λ h. is_zero (F.ops ring.now.coeffs) h ≡ false) polys.now }
+    requires polys { AreOf F.ops F.is_element ring.now polys.now }
+    requires nonzero { NoneIsZero F.ops ring.now polys.now }
     requires suits { O.fits order.now ring.now.vars }
-    ensures places { IfOk result (λ ks. ks.items ≡ kept_places (map (leading_monomial (F.ops ring.now.coeffs) (O.cmp order.now)) polys.now)) }
+    ensures places { IfOk result (AreKeptPlaces F.ops O.cmp ring.now order.now polys.now) }
     ensures inside { IfOk result (λ ks. All (λ k. k < length polys.now) ks.items) }
-    ensures kept { IfOk result (λ ks. map (λ k. get_or polys.now k []) ks.items ≡ kept (F.ops ring.now.coeffs) (O.cmp order.now) polys.now) }
+    ensures kept { IfOk result (StandKept F.ops O.cmp ring.now order.now polys.now) }
 {
     let mut leads = Vec::with_capacity(alloc, polys.len())?;
     for h in polys {
@@ -83,11 +80,11 @@ fn kept_elements<F: Field, O: MonoOrder>(
     polys: &[Poly<F>],
     order: &O,
 ) -> Result<Elements<F>, NoMemory>
-    requires polys { All (IsNormal (F.ops ring.now.coeffs) (F.is_element ring.now.coeffs) ring.now.vars) polys.now }
-    requires nonzero { All (λ h. is_zero (F.ops ring.now.coeffs) h ≡ false) polys.now }
+    requires polys { AreOf F.ops F.is_element ring.now polys.now }
+    requires nonzero { NoneIsZero F.ops ring.now polys.now }
     requires suits { O.fits order.now ring.now.vars }
-    ensures prepared { IfOk result (ArePrepared (F.ops ring.now.coeffs) (F.is_element ring.now.coeffs) ring.now.vars (O.cmp order.now)) }
-    ensures kept { IfOk result (λ es. es.polys.items ≡ kept (F.ops ring.now.coeffs) (O.cmp order.now) polys.now) }
+    ensures prepared { IfOk result (PreparedFor F.ops F.is_element O.cmp ring.now order.now) }
+    ensures kept { IfOk result (AreKept F.ops O.cmp ring.now order.now polys.now) }
 {
     let places = kept_places(ring, alloc, polys, order)?;
     let mut kept = Elements::new(alloc);
@@ -122,15 +119,15 @@ fn made_at<F: Field, O: MonoOrder>(
     place: usize,
     order: &O,
 ) -> Result<Poly<F>, RingFault>
-    requires prepared { ArePrepared (F.ops ring.now.coeffs) (F.is_element ring.now.coeffs) ring.now.vars (O.cmp order.now) elements.old }
+    requires prepared { PreparedFor F.ops F.is_element O.cmp ring.now order.now elements.old }
     requires inside { place < length elements.old.polys.items }
-    requires apart { AreLeadsApart (F.ops ring.now.coeffs) (O.cmp order.now) elements.old.polys.items }
+    requires apart { LeadsAreApart F.ops O.cmp ring.now order.now elements.old }
     requires suits { O.fits order.now ring.now.vars }
-    ensures prepared { OnOk result (ArePrepared (F.ops ring.now.coeffs) (F.is_element ring.now.coeffs) ring.now.vars (O.cmp order.now) elements.new) }
+    ensures prepared { OnOk result (PreparedFor F.ops F.is_element O.cmp ring.now order.now elements.new) }
     ensures same { OnOk result (elements.new.polys.items ≡ elements.old.polys.items) }
-    ensures normal { IfOk result (IsNormal (F.ops ring.now.coeffs) (F.is_element ring.now.coeffs) ring.now.vars) }
-    ensures made { IfOk result (IsMadeAt (F.ops ring.now.coeffs) (O.cmp order.now) elements.old.polys.items place) }
-    ensures degree { IfErr result (DegreesMeet (MakingMeets (F.ops ring.now.coeffs) (F.is_element ring.now.coeffs) (F.too_high ring.now.coeffs) ring.now.vars (O.cmp order.now) elements.old.polys.items place)) }
+    ensures normal { IfOk result (IsOf F.ops F.is_element ring.now) }
+    ensures made { IfOk result (MadeAt F.ops O.cmp ring.now order.now elements.old place) }
+    ensures degree { IfErr result (MakingTooHigh F.ops F.is_element F.too_high O.cmp ring.now order.now elements.old place) }
 {
     let element = elements.polys.remove(place);
     let divisor = elements.divisors.remove(place);
@@ -149,12 +146,12 @@ fn monic<F: Field, O: MonoOrder>(
     f: &Poly<F>,
     order: &O,
 ) -> Result<Poly<F>, RingFault>
-    requires polynomial { IsNormal (F.ops ring.now.coeffs) (F.is_element ring.now.coeffs) ring.now.vars f.now }
+    requires polynomial { IsOf F.ops F.is_element ring.now f.now }
     requires nonzero { is_zero (F.ops ring.now.coeffs) f.now ≡ false }
     requires suits { O.fits order.now ring.now.vars }
-    ensures normal { IfOk result (IsNormal (F.ops ring.now.coeffs) (F.is_element ring.now.coeffs) ring.now.vars) }
+    ensures normal { IfOk result (IsOf F.ops F.is_element ring.now) }
     ensures monic { IfOk result (IsMonicOf (F.ops ring.now.coeffs) (O.cmp order.now) f.now) }
-    ensures degree { IfErr result (DegreesMeet (MonicMeets (F.ops ring.now.coeffs) (F.is_element ring.now.coeffs) (F.too_high ring.now.coeffs) ring.now.vars (O.cmp order.now) f.now)) }
+    ensures degree { IfErr result (MonicTooHigh F.ops F.is_element F.too_high O.cmp ring.now order.now f.now) }
 {
     let (_, c) = leading_term(ring, f, order);
     let Some(inverse) = ring.coeffs().inverse(alloc, c)? else {
@@ -171,14 +168,14 @@ fn insert<F: Field, O: MonoOrder>(
     order: &O,
     list: &mut Vec<Poly<F>>,
 ) -> Result<(), NoMemory>
-    requires list { All (IsNormal (F.ops ring.now.coeffs) (F.is_element ring.now.coeffs) ring.now.vars) list.old.items }
-    requires nonzero { All (λ h. is_zero (F.ops ring.now.coeffs) h ≡ false) list.old.items }
-    requires element { IsNormal (F.ops ring.now.coeffs) (F.is_element ring.now.coeffs) ring.now.vars element }
+    requires list { AreOf F.ops F.is_element ring.now list.old.items }
+    requires nonzero { NoneIsZero F.ops ring.now list.old.items }
+    requires element { IsOf F.ops F.is_element ring.now element }
     requires element_nonzero { is_zero (F.ops ring.now.coeffs) element ≡ false }
-    requires ascending { Ascend (F.ops ring.now.coeffs) (O.cmp order.now) list.old.items }
-    requires new { All (λ h. ¬ (leading_monomial (F.ops ring.now.coeffs) (O.cmp order.now) h ≡ leading_monomial (F.ops ring.now.coeffs) (O.cmp order.now) element)) list.old.items }
+    requires ascending { AscendBy F.ops O.cmp ring.now order.now list.old }
+    requires new { LeadIsNew F.ops O.cmp ring.now order.now element list.old.items }
     requires suits { O.fits order.now ring.now.vars }
-    ensures ascending { OnOk result (Ascend (F.ops ring.now.coeffs) (O.cmp order.now) list.new.items) }
+    ensures ascending { OnOk result (AscendBy F.ops O.cmp ring.now order.now list.new) }
     ensures same { OnOk result (IsPermutation (element ∷ list.old.items) list.new.items) }
 {
     let (lead, _) = leading_term(ring, &element, order);
@@ -195,14 +192,14 @@ fn place_of<F: Field, O: MonoOrder>(
     list: &[Poly<F>],
 ) -> usize
     requires vars { length mono.now ≡ ring.now.vars }
-    requires list { All (IsNormal (F.ops ring.now.coeffs) (F.is_element ring.now.coeffs) ring.now.vars) list.now }
-    requires nonzero { All (λ h. is_zero (F.ops ring.now.coeffs) h ≡ false) list.now }
+    requires list { AreOf F.ops F.is_element ring.now list.now }
+    requires nonzero { NoneIsZero F.ops ring.now list.now }
     requires ascending { Ascend (F.ops ring.now.coeffs) (O.cmp order.now) list.now }
-    requires new { All (λ h. ¬ (leading_monomial (F.ops ring.now.coeffs) (O.cmp order.now) h ≡ mono.now)) list.now }
+    requires new { IsNoLead F.ops O.cmp ring.now order.now mono.now list.now }
     requires suits { O.fits order.now ring.now.vars }
     ensures inside { result ≤ length list.now }
-    ensures before { All (λ h. O.cmp order.now (leading_monomial (F.ops ring.now.coeffs) (O.cmp order.now) h) mono.now ≡ Less) (take result list.now) }
-    ensures after { All (λ h. O.cmp order.now mono.now (leading_monomial (F.ops ring.now.coeffs) (O.cmp order.now) h) ≡ Less) (drop result list.now) }
+    ensures before { LeadsBelow F.ops O.cmp ring.now order.now mono.now (take result list.now) }
+    ensures after { LeadsAbove F.ops O.cmp ring.now order.now mono.now (drop result list.now) }
 {
     'places: for place in 0..list.len() {
         let (other, _) = leading_term(ring, &list[place], order);

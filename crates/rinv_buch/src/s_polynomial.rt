@@ -1,14 +1,9 @@
 //! The S-polynomial of two polynomials: multiples whose leading terms cancel.
 
-ghost use Rattle.std.specs.Prelude.{◌≡◌, ◌≤◌, length, false, IsTrue, IfOk, IfErr};
-ghost use Rattle.rinv_algebra.specs.Ring.{IsSame};
-ghost use Rattle.rinv_algebra.specs.Monomial.{lcm, total_degree, max_degree};
-ghost use Rattle.rinv_algebra.specs.Polynomial.{poly_ops, term_product, is_zero};
-ghost use Rattle.rinv_algebra.specs.Normal.{IsNormal};
-ghost use Rattle.rinv_algebra.specs.Leading.{leading_monomial, leading_coefficient, s_polynomial};
-ghost use Rattle.rinv_ring.specs.Fault.{DegreesMeet};
-ghost use Rattle.rinv_poly.specs.Combined.{TermMeets};
-ghost use Rattle.rinv_buch.specs.Causes.{SPolynomialMeets};
+ghost use Rattle.std.specs.Prelude.{◌≡◌, length, false, IsTrue, IfOk, IfErr};
+ghost use Rattle.rinv_algebra.specs.Polynomial.{is_zero};
+ghost use Rattle.rinv_buch.specs.SPolynomials.{IsLead, IsLeadCoefficient, IsLowLcm, IsMultiple, IsNonzero, IsSPolynomial, ProductTooHigh, SPolynomialTooHigh};
+ghost use Rattle.rinv_div.specs.Polynomials.{IsOf};
 
 use rinv_mono::{Mono, MonoFault, MonoOrder};
 use rinv_poly::{Poly, PolyRing};
@@ -24,15 +19,15 @@ pub fn s_polynomial_of<F: Field, O: MonoOrder>(
     g: &Poly<F>,
     order: &O,
 ) -> Result<Poly<F>, RingFault>
-    requires first { IsNormal (F.ops ring.now.coeffs) (F.is_element ring.now.coeffs) ring.now.vars f.now }
-    requires second { IsNormal (F.ops ring.now.coeffs) (F.is_element ring.now.coeffs) ring.now.vars g.now }
+    requires first { IsOf F.ops F.is_element ring.now f.now }
+    requires second { IsOf F.ops F.is_element ring.now g.now }
     requires first_nonzero { is_zero (F.ops ring.now.coeffs) f.now ≡ false }
     requires second_nonzero { is_zero (F.ops ring.now.coeffs) g.now ≡ false }
     requires suits { O.fits order.now ring.now.vars }
-    requires low { total_degree (lcm (leading_monomial (F.ops ring.now.coeffs) (O.cmp order.now) f.now) (leading_monomial (F.ops ring.now.coeffs) (O.cmp order.now) g.now)) ≤ max_degree }
-    ensures element { IfOk result (IsNormal (F.ops ring.now.coeffs) (F.is_element ring.now.coeffs) ring.now.vars) }
-    ensures value { IfOk result (λ s. IsSame (poly_ops (F.ops ring.now.coeffs)) s (s_polynomial (F.ops ring.now.coeffs) (O.cmp order.now) f.now g.now)) }
-    ensures degree { IfErr result (DegreesMeet (SPolynomialMeets (F.ops ring.now.coeffs) (F.is_element ring.now.coeffs) (F.too_high ring.now.coeffs) ring.now.vars (O.cmp order.now) f.now g.now)) }
+    requires low { IsLowLcm F.ops O.cmp ring.now order.now f.now g.now }
+    ensures element { IfOk result (IsOf F.ops F.is_element ring.now) }
+    ensures value { IfOk result (IsSPolynomial F.ops O.cmp ring.now order.now f.now g.now) }
+    ensures degree { IfErr result (SPolynomialTooHigh F.ops F.is_element F.too_high O.cmp ring.now order.now f.now g.now) }
 {
     let (f_lead, f_coefficient) = leading_term(ring, f, order);
     let (g_lead, g_coefficient) = leading_term(ring, g, order);
@@ -55,14 +50,14 @@ pub fn leading_term<'a, F: Field, O: MonoOrder>(
     f: &'a Poly<F>,
     order: &O,
 ) -> (&'a Mono, &'a F::Elem)
-    requires polynomial { IsNormal (F.ops ring.now.coeffs) (F.is_element ring.now.coeffs) ring.now.vars f.now }
+    requires polynomial { IsOf F.ops F.is_element ring.now f.now }
     requires nonzero { is_zero (F.ops ring.now.coeffs) f.now ≡ false }
     requires suits { O.fits order.now ring.now.vars }
-    ensures monomial { result.0.now ≡ leading_monomial (F.ops ring.now.coeffs) (O.cmp order.now) f.now }
+    ensures monomial { IsLead F.ops O.cmp ring.now order.now f.now result.0.now }
     ensures vars { length result.0.now ≡ ring.now.vars }
     ensures element { IsTrue (F.is_element ring.now.coeffs result.1.now) }
-    ensures nonzero { (F.ops ring.now.coeffs).same result.1.now (F.ops ring.now.coeffs).zero ≡ false }
-    ensures coefficient { IsSame (F.ops ring.now.coeffs) result.1.now (leading_coefficient (F.ops ring.now.coeffs) (O.cmp order.now) f.now) }
+    ensures nonzero { IsNonzero F.ops ring.now result.1.now }
+    ensures coefficient { IsLeadCoefficient F.ops O.cmp ring.now order.now f.now result.1.now }
 {
     let Some(place) = ring.lead(f, order) else {
         unreachable!()
@@ -80,11 +75,11 @@ fn multiple<F: Field>(
 ) -> Result<Poly<F>, RingFault>
     requires vars { length mono ≡ ring.now.vars }
     requires element { IsTrue (F.is_element ring.now.coeffs c.now) }
-    requires nonzero { (F.ops ring.now.coeffs).same c.now (F.ops ring.now.coeffs).zero ≡ false }
-    requires polynomial { IsNormal (F.ops ring.now.coeffs) (F.is_element ring.now.coeffs) ring.now.vars f.now }
-    ensures element { IfOk result (IsNormal (F.ops ring.now.coeffs) (F.is_element ring.now.coeffs) ring.now.vars) }
-    ensures value { IfOk result (λ r. IsSame (poly_ops (F.ops ring.now.coeffs)) r (term_product (F.ops ring.now.coeffs) (mono, c.now) f.now)) }
-    ensures degree { IfErr result (DegreesMeet (TermMeets (F.ops ring.now.coeffs) (F.is_element ring.now.coeffs) (F.too_high ring.now.coeffs) ring.now.vars (mono, c.now) f.now)) }
+    requires nonzero { IsNonzero F.ops ring.now c.now }
+    requires polynomial { IsOf F.ops F.is_element ring.now f.now }
+    ensures element { IfOk result (IsOf F.ops F.is_element ring.now) }
+    ensures value { IfOk result (IsMultiple F.ops ring.now mono c.now f.now) }
+    ensures degree { IfErr result (ProductTooHigh F.ops F.is_element F.too_high ring.now mono c.now f.now) }
 {
     let mut terms = Vec::with_capacity(alloc, 1)?;
     let _degree = mono.degree();

@@ -1,18 +1,14 @@
 //! One pair: nothing is to be done where it is coprime or a third element settles it, else its S-polynomial is divided.
 
-ghost use Rattle.std.specs.Prelude.{◌≡◌, ◌<◌, ◌≤◌, ℕ, length, map, IsTrue, IfOk, IfErr};
-ghost use Rattle.rinv_algebra.specs.Leading.{leading_monomial};
-ghost use Rattle.rinv_pairs.specs.Pairs.{HasThird};
-ghost use Rattle.rinv_algebra.specs.Monomial.{total_degree, max_degree};
-ghost use Rattle.rinv_algebra.specs.Normal.{IsNormal};
-ghost use Rattle.rinv_groebner.specs.Settled.{lcm_at};
+ghost use Rattle.std.specs.Prelude.{◌≡◌, ◌<◌, length, IsTrue, IfOk, IfErr};
 ghost use Rattle.rinv_algebra.specs.Polynomial.{is_zero};
 ghost use Rattle.rinv_ring.specs.declared.fault.RingFault.TheVariants.{Degree};
 ghost use Rattle.rinv_div.specs.Budgets.{Spends};
-ghost use Rattle.rinv_div.specs.Stops.{StopsBy};
+ghost use Rattle.rinv_div.specs.Stops.{StopsBy, StopsWith};
 ghost use Rattle.rinv_buch.specs.Spent.{IsKept, KeepsLimits};
-ghost use Rattle.rinv_buch.specs.Elements.{ArePrepared};
-ghost use Rattle.rinv_buch.specs.Runs.{Settles, SettlesBy, SettlesWith, steps_with, RunsOutAt, MeetsDegreeAt};
+ghost use Rattle.rinv_buch.specs.Runs.{SettlesBy, SettlesWith, steps_with, HasNoThird, SettlesPair, StopsAt};
+ghost use Rattle.rinv_buch.specs.Elements.{IsLowPair, LeadsAre, PreparedFor};
+ghost use Rattle.rinv_div.specs.Polynomials.{IsOf};
 
 use crate::elements::Elements;
 use crate::s_polynomial::s_polynomial_of;
@@ -44,20 +40,20 @@ pub fn settle<F: Field, O: MonoOrder, S: MonoOrder>(
     order: &O,
     budget: &mut Budget,
 ) -> Result<Outcome<F>, DivStop<F>>
-    requires prepared { ArePrepared (F.ops ring.now.coeffs) (F.is_element ring.now.coeffs) ring.now.vars (O.cmp order.now) elements.now }
+    requires prepared { PreparedFor F.ops F.is_element O.cmp ring.now order.now elements.now }
     requires suits { O.fits order.now ring.now.vars }
     requires ascending { pair.first < pair.second }
     requires inside { pair.second < length elements.now.polys.items }
-    requires low { total_degree (lcm_at (F.ops ring.now.coeffs) (O.cmp order.now) elements.now.polys.items pair.first pair.second) ≤ max_degree }
-    requires leads { queue.now.leads ≡ map (leading_monomial (F.ops ring.now.coeffs) (O.cmp order.now)) elements.now.polys.items }
+    requires low { IsLowPair F.ops O.cmp ring.now order.now elements.now pair }
+    requires leads { LeadsAre F.ops O.cmp ring.now order.now elements.now queue.now }
     requires within { IsKept budget.old }
-    ensures settles { IfOk result (Settles (F.ops ring.now.coeffs) (O.cmp order.now) elements.now.polys.items pair.first pair.second) }
+    ensures settles { IfOk result (SettlesPair F.ops O.cmp ring.now order.now elements.now pair) }
     ensures third { IfOk result (SettlesBy queue.now pair.first pair.second) }
-    ensures no_third { IfErr result (StopsBy (λ _. (by : ℕ) → HasThird queue.now pair.first pair.second by → ⊥) (λ _ _ _. (by : ℕ) → HasThird queue.now pair.first pair.second by → ⊥)) }
+    ensures no_third { IfErr result (StopsWith (λ _. HasNoThird queue.now pair)) }
     ensures spent { IfOk result (λ s. Spends (steps_with s) budget.old budget.new) }
-    ensures rest { IfOk result (SettlesWith (IsNormal (F.ops ring.now.coeffs) (F.is_element ring.now.coeffs) ring.now.vars)) }
-    ensures stop { IfErr result (StopsBy (RunsOutAt (F.ops ring.now.coeffs) (O.cmp order.now) elements.now.polys.items pair.first pair.second budget.old budget.new) (MeetsDegreeAt (F.ops ring.now.coeffs) (F.is_element ring.now.coeffs) (F.too_high ring.now.coeffs) ring.now.vars (O.cmp order.now) elements.now.polys.items pair.first pair.second budget.old budget.new)) }
-    ensures working { IfErr result (StopsBy (IsNormal (F.ops ring.now.coeffs) (F.is_element ring.now.coeffs) ring.now.vars) (λ _ _. IsNormal (F.ops ring.now.coeffs) (F.is_element ring.now.coeffs) ring.now.vars)) }
+    ensures rest { IfOk result (SettlesWith (IsOf F.ops F.is_element ring.now)) }
+    ensures stop { IfErr result (StopsAt F.ops F.is_element F.too_high O.cmp ring.now order.now elements.now pair budget.old budget.new) }
+    ensures working { IfErr result (StopsWith (IsOf F.ops F.is_element ring.now)) }
     ensures limits { KeepsLimits budget.old budget.new }
     ensures still_within { IsKept budget.new }
 {
@@ -95,7 +91,7 @@ pub fn settle<F: Field, O: MonoOrder, S: MonoOrder>(
 fn before_division<F: Field>(ring: &PolyRing<F>, alloc: Global, fault: RingFault) -> DivStop<F>
     ensures fault { StopsBy (λ _. ⊥) (λ x y _. fault ≡ Degree x y) result }
     ensures idle { StopsBy (λ _. ⊥) (λ _ _ f. IsTrue (is_zero (F.ops ring.now.coeffs) f)) result }
-    ensures normal { StopsBy (λ _. ⊥) (λ _ _ f. IsNormal (F.ops ring.now.coeffs) (F.is_element ring.now.coeffs) ring.now.vars f) result }
+    ensures normal { StopsBy (λ _. ⊥) (λ _ _. IsOf F.ops F.is_element ring.now) result }
 {
     match fault {
         RingFault::NoMemory => DivStop::NoMemory,

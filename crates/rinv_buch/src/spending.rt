@@ -1,15 +1,16 @@
 //! What a run of the algorithm counts in its budget.
 
-ghost use Rattle.std.specs.Prelude.{◌≡◌, ◌<◌, ◌≤◌, ◌-◌, ◌^◌, true, false};
+ghost use Rattle.std.specs.Prelude.{◌≡◌, ◌<◌, ◌-◌, ◌^◌, true, false};
 ghost use Rattle.rinv_div.specs.Budgets.{Spends};
 ghost use Rattle.rinv_buch.specs.Spent.{IsKept, SpendsBoth};
+ghost use Rattle.rinv_buch.specs.Causes.{HasPairLeft, IsOutOfPairs};
 
 use rinv_div::Budget;
 
 /// Whether no pair may be taken.
 pub fn is_out_of_pairs(budget: &Budget) -> bool
-    ensures spent { result ≡ true → (budget.now.endless ≡ false) × (budget.now.pairs ≤ budget.now.pairs_spent) }
-    ensures left { result ≡ false → budget.now.endless ≡ false → budget.now.pairs_spent < budget.now.pairs }
+    ensures spent { result ≡ true → IsOutOfPairs budget.now }
+    ensures left { result ≡ false → HasPairLeft budget.now }
 {
     !budget.endless && budget.pairs_spent >= budget.pairs
 }

@@ -1,13 +1,12 @@
 //! Changed terms are merged into the terms of a polynomial, in the order of a division, the greatest last: what is not below the least
 //! change is moved once.
 
-ghost use Rattle.std.specs.Prelude.{◌≡◌, ◌<◌, ◌≤◌, ℕ, List, [], ◌∷◌, ◌++◌, length, reverse as reversed, All, IsTrue, OnOk};
+ghost use Rattle.std.specs.Prelude.{◌≡◌, ◌<◌, ◌≤◌, [], length, All, IsTrue, OnOk};
 ghost use Rattle.std.specs.declared.cmp.Ordering.TheVariants.{Less, Equal};
-ghost use Rattle.rinv_algebra.specs.Ring.{IsSame};
 ghost use Rattle.rinv_algebra.specs.Monomial.{total_degree, max_degree};
-ghost use Rattle.rinv_algebra.specs.Polynomial.{Polynomial, poly_ops};
-ghost use Rattle.rinv_poly.specs.Terms.{IsTerm, IsMoved, with_term};
-ghost use Rattle.rinv_div.specs.Arranged.{IsArranged, AreChanges, AreChanged, IsPut, IsReplaced};
+ghost use Rattle.rinv_poly.specs.Terms.{IsTerm, IsMoved};
+ghost use Rattle.rinv_div.specs.Moves.{ComparesLast, Appends, PutsLast, ReplacesLast};
+ghost use Rattle.rinv_div.specs.Polynomials.{Ascends, InOrder, TakesIn};
 
 use rinv_mono::{Mono, MonoOrder};
 use rinv_ring::{NoMemory, Ring};
@@ -24,10 +23,10 @@ pub fn merge<R: Ring, O: MonoOrder>(
     left: &mut Vec<(Mono, R::Elem)>,
 ) -> Result<(), NoMemory>
     requires suits { O.fits order.now vars }
-    requires changes { AreChanges (R.is_element coeffs.now) vars (O.cmp order.now) (reversed changes.items) }
-    requires left { IsArranged (R.ops coeffs.now) (R.is_element coeffs.now) vars (O.cmp order.now) (reversed left.old.items) }
-    ensures arranged { OnOk result (IsArranged (R.ops coeffs.now) (R.is_element coeffs.now) vars (O.cmp order.now) (reversed left.new.items)) }
-    ensures value { OnOk result ((added : Polynomial R.Elem) → AreChanged (R.ops coeffs.now) (reversed left.old.items) added (reversed changes.items) → IsSame (poly_ops (R.ops coeffs.now)) (reversed left.new.items) (reversed left.old.items ++ added)) }
+    requires changes { InOrder R.is_element O.cmp coeffs.now order.now vars changes }
+    requires left { Ascends R.ops R.is_element O.cmp coeffs.now order.now vars left.old }
+    ensures arranged { OnOk result (Ascends R.ops R.is_element O.cmp coeffs.now order.now vars left.new) }
+    ensures value { OnOk result (TakesIn R.ops coeffs.now changes left.old left.new) }
 {
     let mut changes = changes;
     let mut done = Vec::new(alloc);
@@ -54,7 +53,7 @@ fn compare_last<E, O: MonoOrder>(
     requires left { All (λ t. length t.0 ≡ vars) a.now.items }
     requires right { All (λ t. length t.0 ≡ vars) b.now.items }
     requires some { 0 < length b.now.items }
-    ensures both { (f g : List (List ℕ × E)) (s t : List ℕ × E) → a.now.items ≡ f ++ s ∷ [] → b.now.items ≡ g ++ t ∷ [] → result ≡ O.cmp order.now s.0 t.0 }
+    ensures both { ComparesLast O.cmp order.now a.now.items b.now.items result }
     ensures ended { a.now.items ≡ [] → result ≡ Less }
 {
     match (a.last(), b.last()) {
@@ -84,7 +83,7 @@ fn put_last<R: Ring>(
 ) -> Result<(), NoMemory>
     requires some { 0 < length from.old.items }
     requires terms { All (IsTerm (R.is_element coeffs.now) vars) from.old.items }
-    ensures { OnOk result (IsPut (R.ops coeffs.now) from.old.items from.new.items to.old.items to.new.items) }
+    ensures { OnOk result (PutsLast R.ops coeffs.now from.old from.new to.old to.new) }
 {
     let Some((mono, c)) = from.pop() else {
         unreachable!()
@@ -101,7 +100,7 @@ fn push_term<R: Ring>(
     to: &mut Vec<(Mono, R::Elem)>,
 ) -> Result<(), NoMemory>
     requires { IsTrue (R.is_element coeffs.now c) }
-    ensures value { OnOk result (to.new.items ≡ with_term (R.ops coeffs.now) to.old.items (mono, c)) }
+    ensures value { OnOk result (Appends R.ops coeffs.now (mono, c) to.old to.new) }
     ensures low { total_degree mono ≤ max_degree }
 {
     let _degree = mono.degree();
@@ -122,7 +121,7 @@ fn replace_last<R: Ring>(
     requires some_left { 0 < length left.old.items }
     requires some { 0 < length changes.old.items }
     requires terms { All (IsTerm (R.is_element coeffs.now) vars) changes.old.items }
-    ensures { OnOk result (IsReplaced (R.ops coeffs.now) left.old.items left.new.items changes.old.items changes.new.items to.old.items to.new.items) }
+    ensures { OnOk result (ReplacesLast R.ops coeffs.now left.old left.new changes.old changes.new to.old to.new) }
 {
     let Some(_old) = left.pop() else {
         unreachable!()

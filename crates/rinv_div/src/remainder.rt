@@ -1,13 +1,11 @@
 //! What a division leaves, for who asks for no quotients: nothing is kept of the steps.
 
-ghost use Rattle.std.specs.Prelude.{◌≡◌, List, IfOk, IfErr};
-ghost use Rattle.rinv_algebra.specs.Normal.{IsNormal};
-ghost use Rattle.rinv_ring.specs.Fault.{DegreesMeet};
+ghost use Rattle.std.specs.Prelude.{IfOk, IfErr};
 ghost use Rattle.rinv_ring.specs.declared.fault.RingFault.TheVariants.{Degree};
-ghost use Rattle.rinv_groebner.specs.Division.{Step, IsDivision};
 ghost use Rattle.rinv_div.specs.Budgets.{IsWithin, KeepsOthers};
-ghost use Rattle.rinv_div.specs.Divisors.{AreDivisors};
-ghost use Rattle.rinv_div.specs.Stops.{Reduces, RunsOut, MeetsDegree, StepsMeet, StopsBy};
+ghost use Rattle.rinv_div.specs.Stops.{StopsWith, ReducesTo, ReducesWithin, StopsDividing, StepTooHigh};
+ghost use Rattle.rinv_div.specs.Divisors.{MadeOf};
+ghost use Rattle.rinv_div.specs.Polynomials.{IsOf};
 
 use crate::budget::Budget;
 use crate::divisors::Divisors;
@@ -31,14 +29,14 @@ pub fn remainder_by<R: Ring, O: MonoOrder>(
     order: &O,
     steps: &mut Budget,
 ) -> Result<Poly<R>, DivStop<R>>
-    requires dividend { IsNormal (R.ops ring.now.coeffs) (R.is_element ring.now.coeffs) ring.now.vars f.now }
+    requires dividend { IsOf R.ops R.is_element ring.now f.now }
     requires suits { O.fits order.now ring.now.vars }
-    requires divisors { AreDivisors (R.ops ring.now.coeffs) (R.is_element ring.now.coeffs) ring.now.vars (O.cmp order.now) basis.now divisors.now.list.items }
+    requires divisors { MadeOf R.ops R.is_element O.cmp ring.now order.now basis.now divisors.now }
     requires within { IsWithin steps.old }
-    ensures division { IfOk result (λ rest. Reduces (R.ops ring.now.coeffs) (O.cmp order.now) basis.now f.now steps.old steps.new rest) }
-    ensures rest { IfOk result (λ rest. IsNormal (R.ops ring.now.coeffs) (R.is_element ring.now.coeffs) ring.now.vars rest) }
-    ensures stop { IfErr result (StopsBy (RunsOut (R.ops ring.now.coeffs) (O.cmp order.now) basis.now f.now steps.old steps.new) (MeetsDegree (R.ops ring.now.coeffs) (O.cmp order.now) basis.now f.now (R.is_element ring.now.coeffs) (R.too_high ring.now.coeffs) steps.old steps.new)) }
-    ensures working { IfErr result (StopsBy (IsNormal (R.ops ring.now.coeffs) (R.is_element ring.now.coeffs) ring.now.vars) (λ _ _. IsNormal (R.ops ring.now.coeffs) (R.is_element ring.now.coeffs) ring.now.vars)) }
+    ensures division { IfOk result (ReducesWithin R.ops O.cmp ring.now order.now basis.now f.now steps.old steps.new) }
+    ensures rest { IfOk result (IsOf R.ops R.is_element ring.now) }
+    ensures stop { IfErr result (StopsDividing R.ops R.is_element R.too_high O.cmp ring.now order.now basis.now f.now steps.old steps.new) }
+    ensures working { IfErr result (StopsWith (IsOf R.ops R.is_element ring.now)) }
     ensures budget { KeepsOthers steps.old steps.new }
     ensures still_within { IsWithin steps.new }
 {
@@ -65,12 +63,12 @@ pub fn remainder_wholly<R: Ring, O: MonoOrder>(
     divisors: &Divisors<R>,
     order: &O,
 ) -> Result<Poly<R>, RingFault>
-    requires dividend { IsNormal (R.ops ring.now.coeffs) (R.is_element ring.now.coeffs) ring.now.vars f.now }
+    requires dividend { IsOf R.ops R.is_element ring.now f.now }
     requires suits { O.fits order.now ring.now.vars }
-    requires divisors { AreDivisors (R.ops ring.now.coeffs) (R.is_element ring.now.coeffs) ring.now.vars (O.cmp order.now) basis.now divisors.now.list.items }
-    ensures division { IfOk result (λ rest. (steps : List (Step R.Elem)) × IsDivision (R.ops ring.now.coeffs) (O.cmp order.now) basis.now f.now steps rest) }
-    ensures rest { IfOk result (λ rest. IsNormal (R.ops ring.now.coeffs) (R.is_element ring.now.coeffs) ring.now.vars rest) }
-    ensures degree { IfErr result (DegreesMeet (StepsMeet (R.ops ring.now.coeffs) (O.cmp order.now) basis.now f.now (R.is_element ring.now.coeffs) (R.too_high ring.now.coeffs))) }
+    requires divisors { MadeOf R.ops R.is_element O.cmp ring.now order.now basis.now divisors.now }
+    ensures division { IfOk result (ReducesTo R.ops O.cmp ring.now order.now basis.now f.now) }
+    ensures rest { IfOk result (IsOf R.ops R.is_element ring.now) }
+    ensures degree { IfErr result (StepTooHigh R.ops R.is_element R.too_high O.cmp ring.now order.now basis.now f.now) }
 {
     let mut endless = Budget::without_end();
     match remainder_by(ring, alloc, f, basis, divisors, order, &mut endless) {
