@@ -20,8 +20,8 @@
 
 Names and polynomials may be strings, or anything whose str() is one, so elements of polynomial rings of Sage or SymPy serve
 as they are; and `field` may be a field of Sage. What rinv refuses, denies or does not finish is an exception that says what
-and where. The program is the one that the environment names in RINV, else the launcher beside this folder, else the one on
-the PATH.
+and where. The program is the one that the environment names in RINV, else the launcher beside this folder or the program
+that was installed with it, else the one on the PATH.
 """
 
 import json
@@ -93,11 +93,16 @@ class Failed(RinvError):
 
 
 def program():
-    beside = TOOLS.parent / "rinv"
-    found = os.environ.get("RINV") or (str(beside) if beside.is_file() else shutil.which("rinv"))
+    """The program: see above. An installed module stands in share/rinv/tools, and the program in bin."""
+    for beside in (TOOLS.parent / "rinv", TOOLS.parent.parent.parent / "bin/rinv"):
+        if beside.is_file():
+            break
+    else:
+        beside = shutil.which("rinv")
+    found = os.environ.get("RINV") or beside
     if not found:
-        raise FileNotFoundError("rinv: neither RINV, nor a launcher beside this folder, nor one on the PATH")
-    return found
+        raise FileNotFoundError("rinv: neither RINV, nor a program beside this folder, nor one on the PATH")
+    return str(found)
 
 
 def run(words, text, timeout=None):

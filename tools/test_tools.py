@@ -1,8 +1,8 @@
 #!/usr/bin/env python3
 """Tests the tools against rinv on every example: the second checker agrees with `check`, accepted or not, also where one
 number of a certificate is changed; Singular and Macaulay2 find what the certificate of each system claims, and find out the
-forged ones whose claim is false; the module and the Sage code give what rinv prints. What needs a system that is not
-installed is skipped, and said so.
+forged ones whose claim is false; the module and the Sage code give what rinv prints; the syntax file and the manual page
+have every word. What needs a system that is not installed is skipped, and said so.
 
 usage: tools/test_tools.py      after the program is built; RINV names another program, as for tools/rinv.py
 """
@@ -191,10 +191,20 @@ def sage():
     hold("to_sage.py: expressions have their values", printed(["sage", "-c", code], "")[-1:] == ["True"])
 
 
+def editor():
+    """The words that stand first in the tables of docs/FORMATS.md, up to the codes, are known to vim and to the manual page."""
+    tables = (TOP / "docs/FORMATS.md").read_text(encoding="utf-8").split("### What is refused")[0]
+    words = {word for line in re.findall(r"^\| (`[^|]*) \|", tables, re.MULTILINE) for word in re.findall(r"\w+", line)}
+    for path in ("editors/vim/syntax/rinv.vim", "man/rinv.1"):
+        text = (TOP / path).read_text(encoding="ascii")
+        hold(f"{path} has every word", len(words) > 10 and all(re.search(rf"\b{word}\b", text) for word in words))
+
+
 every = list(certificates())
 second_checker(every)
 other_systems(every)
 module()
+editor()
 sage()
 print(f"failed: {len(failed)}")
 sys.exit(1 if failed else 0)
