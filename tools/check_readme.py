@@ -7,6 +7,8 @@ what it prints stands behind its lines as comments. In the manual page commands 
 Each is run by bash at the top of the repository, those of the manual page in examples/systems, so the program is best built
 before: `./rinv laws < examples/systems/signs.rinv` does that.
 
+The tables of docs/ARCHITECTURE.md say in which file a name stands; that it does is tested too.
+
 usage: tools/check_readme.py [FILE..]      README.md and the documents that show commands, where no file is named
 """
 
@@ -76,8 +78,31 @@ def printed(command, folder):
     return ran.stdout.decode("utf-8", "replace").splitlines()
 
 
+def places(text):
+    """The rows of a table that end with a name and the file under crates/ in which it is said to stand."""
+    for number, line in enumerate(text.splitlines(), 1):
+        if found := re.search(r"\| `(\w+)` \| `(rinv_\w+/\S+)` \|$", line):
+            yield number, found[1], found[2]
+
+
+def misplaced(name):
+    """How many names a document has, and those that do not stand in their file."""
+    found = list(places((TOP / name).read_text(encoding="utf-8")))
+    return len(found), [place for place in found if not is_defined(*place[1:])]
+
+
+def is_defined(name, file):
+    path = TOP / "crates" / file
+    kind = r"(fn|const|enum|struct|trait|type)\s+" if file.endswith(".rt") else r"^(pub )?"
+    return path.is_file() and bool(re.search(rf"{kind}{name}\b", path.read_text(encoding="utf-8"), re.MULTILINE))
+
+
 def main():
     run = failed = 0
+    count, lost = misplaced("docs/ARCHITECTURE.md")
+    for number, place, file in lost:
+        print(f"docs/ARCHITECTURE.md:{number}: {place} does not stand in crates/{file}")
+    print(f"places named: {count}, not found: {len(lost)}")
     for name in sys.argv[1:] or SHOWN:
         for number, command, folder, shown in examples(name):
             run += 1
@@ -88,7 +113,7 @@ def main():
                 print("  shown:", *shown, sep="\n    ")
                 print("  found:", *found, sep="\n    ")
     print(f"commands run: {run}, with other output: {failed}")
-    return 1 if failed or not run else 0
+    return 1 if failed or lost or not run else 0
 
 
 if __name__ == "__main__":
