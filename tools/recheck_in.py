@@ -11,6 +11,9 @@ in ideals. A line is printed for each thing that is tested, `ok ..` or `FAILS ..
                  coefficients are the constants and the fractions to which they are tied, and their leading monomials
                  cover the basis
 
+A certificate that is refused or has not the format (C1) gets no script: the line that `check` has for it stands on standard
+error, and the status is 3 or 1.
+
 usage: tools/recheck_in.py singular < CERTIFICATE | Singular -q
        tools/recheck_in.py macaulay2 < CERTIFICATE > script.m2; M2 --script script.m2
 """
@@ -155,14 +158,17 @@ def main():
         print(__doc__.strip(), file=sys.stderr)
         return 2
     try:
-        c = recheck.read(sys.stdin.buffer.read())
+        c = recheck.read(sys.stdin.buffer.read(recheck.MOST_BYTES + 1))
         s = recheck.System(c)
         for number, good in recheck.formats(c, s):
             if not good:
                 raise recheck.Fails(1, number)
-    except (recheck.Refused, recheck.Fails) as why:
-        print("no certificate of this format:", *why.args, file=sys.stderr)
+    except recheck.Refused as why:
+        print("refused", *why.args, file=sys.stderr)
         return 3
+    except recheck.Fails as why:
+        print("no C{} {}".format(*why.args), file=sys.stderr)
+        return 1
     script = Script(systems[sys.argv[1]](), s)
     if c["kind"] != "invariance":
         script.laws()

@@ -5,14 +5,23 @@
     ...                         inverse="a, -b", action="a*x-b*y, b*x+a*y")
     >>> rotations.generators()
     ['x^2 + y^2']
+    >>> rotations.generators().worth
+    'complete'
     >>> rotations.rewrite("(x^2+y^2)^3/(1+x^2+y^2)")
     'y1^3/(y1 + 1)'
-    >>> rinv.check(open("examples/certificates/translations-full.json").read()).worth
-    'complete'
+    >>> rotations.is_invariant("x/y")
+    False
+    >>> certificate = rotations.certify()
+    >>> certificate.kind, certificate.check().worth, certificate.recheck().worth
+    ('full', 'complete', 'complete')
+    >>> rinv.System(4, "a", "x", unit="0", product="a+a'", inverse="-a", action="x+a").laws()
+    Traceback (most recent call last):
+    rinv.Refused: refused line 1 Field not listed
 
-Names and polynomials may be strings, or anything whose str() is one, so elements of Sage's polynomial rings serve as they
-are. What rinv refuses, denies or does not finish is an exception that says what and where. The program is the one that
-the environment names in RINV, else the launcher beside this folder, else the one on the PATH.
+Names and polynomials may be strings, or anything whose str() is one, so elements of polynomial rings of Sage or SymPy serve
+as they are; and `field` may be a field of Sage. What rinv refuses, denies or does not finish is an exception that says what
+and where. The program is the one that the environment names in RINV, else the launcher beside this folder or the program
+that was installed with it, else the one on the PATH.
 """
 
 import json
@@ -21,6 +30,10 @@ import pathlib
 import re
 import shutil
 import subprocess
+import sys
+
+TOOLS = pathlib.Path(__file__).resolve().parent
+SYSTEMS = {"singular": ("Singular", "-q"), "macaulay2": ("M2", "--script", "/dev/stdin")}
 
 
 class RinvError(Exception):
@@ -72,31 +85,43 @@ class Incomplete(RinvError):
 
 
 class Failed(RinvError):
-    """rinv could not read, write or get memory, or did not know the command: its `status`."""
+    """A program could not read, write or get memory, or did not know the command: its `status`."""
 
-    def __init__(self, status):
-        super().__init__(f"rinv ended with status {status}")
+    def __init__(self, status, what="rinv"):
+        super().__init__(f"{what} ended with status {status}")
         self.status = status
 
 
 def program():
-    beside = pathlib.Path(__file__).resolve().parent.parent / "rinv"
-    found = os.environ.get("RINV") or (str(beside) if beside.is_file() else shutil.which("rinv"))
+    """The program: see above. An installed module stands in share/rinv/tools, and the program in bin."""
+    for beside in (TOOLS.parent / "rinv", TOOLS.parent.parent.parent / "bin/rinv"):
+        if beside.is_file():
+            break
+    else:
+        beside = shutil.which("rinv")
+    found = os.environ.get("RINV") or beside
     if not found:
-        raise FileNotFoundError("rinv: neither RINV, nor a launcher beside this folder, nor one on the PATH")
-    return found
+        raise FileNotFoundError("rinv: neither RINV, nor a program beside this folder, nor one on the PATH")
+    return str(found)
 
 
 def run(words, text, timeout=None):
     """The status, and the lines that are printed."""
-    ran = subprocess.run([program(), *words], input=text.encode("ascii", "replace"), stdout=subprocess.PIPE, timeout=timeout,
-                         check=False)
+    return printed([program(), *words], text, timeout)
+
+
+def printed(command, text, timeout=None):
+    """The status of a command that reads a text, and the lines that it prints."""
+    ran = subprocess.run(command, input=text.encode("utf-8"), stdout=subprocess.PIPE, timeout=timeout, check=False)
     return ran.returncode, ran.stdout.decode("ascii").splitlines()
 
 
 def answer(words, text, timeout=None):
     """The lines of an answer that is given; an exception for any other."""
-    status, lines = run(words, text, timeout)
+    return told(*run(words, text, timeout))
+
+
+def told(status, lines):
     if lines and (status in (0, 1) and not lines[0].startswith("denied ")):
         return lines
     first = lines[0] if lines else ""
@@ -115,20 +140,38 @@ def answer(words, text, timeout=None):
     raise Failed(status)
 
 
+def one_line(entry):
+    """A name, polynomial or fraction as a text has it."""
+    text = str(entry).replace("**", "^")
+    if "\n" in text or "#" in text:
+        raise ValueError(f"no line of a text: {text!r}")
+    return text
+
+
 def listed(entries):
     """A list as a system's text has it."""
-    return entries if isinstance(entries, str) else ", ".join(map(str, entries))
+    return one_line(entries if isinstance(entries, str) else ", ".join(map(str, entries)))
+
+
+def primed(product, group, second):
+    """The text of a product in which the names of the second factor are those of the group with a prime."""
+    names = dict(zip(re.findall(r"\w+", second), re.findall(r"\w+", group)))
+    return re.sub(r"[A-Za-z]\w*", lambda found: names[found[0]] + "'" if found[0] in names else found[0], product)
 
 
 class System:
     """A group and its action on a space over the field with `field` elements, as the text of a system has them.
 
     Each argument is a string with commas, or a list. `section` has the equations of a cross-section, `pairs` and `steps`
-    the budget of the runs; what is left out is not written.
+    the budget of the runs; what is left out is not written. Where names can't have primes, as in Sage, `second` has other
+    names for the coordinates of a product's second factor: `product="a*c-b*d, a*d+b*c", second="c, d"`.
     """
 
-    def __init__(self, field, group, space, *, unit, product, inverse, action, ideal=(), section=(), pairs=None, steps=None):
-        lines = [f"field {field}", f"group {listed(group)}", f"space {listed(space)}"]
+    def __init__(self, field, group, space, *, unit, product, inverse, action, ideal=(), section=(), second=(), pairs=None,
+                 steps=None):
+        order = field.order() if hasattr(field, "order") else field
+        lines = [f"field {order}", f"group {listed(group)}", f"space {listed(space)}"]
+        product = primed(listed(product), listed(group), listed(second))
         for word, entries in (("ideal", ideal), ("unit", unit), ("product", product), ("inverse", inverse),
                               ("action", action), ("section", section)):
             if listed(entries):
@@ -141,28 +184,62 @@ class System:
     @classmethod
     def read(cls, path):
         """The system whose text a file has."""
+        return cls.of(pathlib.Path(path).read_text(encoding="utf-8"))
+
+    @classmethod
+    def of(cls, text):
+        """The system of a text."""
         system = cls.__new__(cls)
-        system.text = pathlib.Path(path).read_text(encoding="ascii")
+        system.text = text
         return system
+
+    def write(self, path):
+        pathlib.Path(path).write_text(self.text, encoding="utf-8")
+
+    def with_lines(self, *lines):
+        """The text with these lines behind it."""
+        return self.text.rstrip("\n") + "\n" + "".join(line + "\n" for line in lines)
 
     def laws(self, timeout=None):
         """True where all laws hold; LawFails names the first that does not."""
         return answer(["laws"], self.text, timeout) == ["laws hold"]
 
     def generators(self, timeout=None):
-        """Generators of all invariant fractions, as strings; with a section they are invariant fractions."""
-        return fractions(answer(["gen"], self.text, timeout)[:-1])
+        """Generators of all invariant fractions, as strings; with a section they are invariant fractions. See `worth`."""
+        return Generators(answer(["gen"], self.text, timeout))
+
+    def is_invariant(self, fraction, timeout=None):
+        """Whether a fraction is invariant; no generators are looked for."""
+        lines = answer(["run"], self.with_lines(f"invariant {one_line(fraction)}"), timeout)
+        return lines[0] == "invariant 1 yes"
 
     def rewrite(self, fraction, timeout=None):
-        """The expression of one invariant fraction in the generators y1, y2, ..."""
-        return self.rewrite_all([fraction], timeout)[0]()
+        """The expression of one invariant fraction in the generators y1, y2, ..; NotInvariant or VanishingDenominator."""
+        found = self.rewrite_all([fraction], timeout)[0]
+        if isinstance(found, RinvError):
+            raise found
+        return found
 
     def rewrite_all(self, several, timeout=None):
-        """A call for each fraction that gives its expression, or raises NotInvariant or VanishingDenominator."""
-        text = self.text.rstrip("\n") + "".join(f"\nrewrite {f}" for f in several) + "\n"
-        lines = answer(["rewrite"], text, timeout)
-        told = [line for line in lines if line.startswith("rewrite ")]
-        return [lambda line=line: expression(line) for line in told]
+        """The expressions of several fractions; where one has none, the exception that says why stands in its place."""
+        text = self.with_lines(*(f"rewrite {one_line(fraction)}" for fraction in several))
+        return [expression(line) for line in answer(["rewrite"], text, timeout) if line.startswith("rewrite ")]
+
+    def run(self, *lines, timeout=None):
+        """What `run` prints for these lines of a script: `def`, `laws`, `generators`, `invariant`, `rewrite`."""
+        return answer(["run"], self.with_lines(*map(one_line, lines)), timeout)
+
+    def certify(self, timeout=None):
+        """The certificate of the generators, of kind `full`; of kind `sound` with a section."""
+        return Certificate(answer(["certify"], self.text, timeout)[0])
+
+
+class Generators(list):
+    """Fractions as strings, y1 first; `worth` is `complete` where they generate all invariants, else `complete on section`."""
+
+    def __init__(self, lines):
+        super().__init__(fractions(lines[:-1]))
+        self.worth = lines[-1]
 
 
 def fractions(lines):
@@ -170,11 +247,55 @@ def fractions(lines):
 
 
 def expression(line):
+    """The expression of a line of `rewrite`, or why there is none."""
     if found := re.fullmatch(r"rewrite \d+ = (.*)", line):
         return found[1]
     if found := re.fullmatch(r"rewrite \d+ not invariant rest (.*)", line):
-        raise NotInvariant(line, found[1])
-    raise VanishingDenominator(line)
+        return NotInvariant(line, found[1])
+    return VanishingDenominator(line)
+
+
+class Certificate:
+    """A certificate: the `text` of its JSON. It may be anybody's; nothing is true of it before it is checked."""
+
+    def __init__(self, certificate):
+        text = certificate if isinstance(certificate, str) else json.dumps(certificate, separators=(",", ":"))
+        self.text = text.rstrip("\n")
+
+    @classmethod
+    def read(cls, path):
+        return cls(pathlib.Path(path).read_text(encoding="utf-8"))
+
+    def write(self, path):
+        pathlib.Path(path).write_text(self.text + "\n", encoding="utf-8")
+
+    def value(self):
+        """The dictionary of its JSON."""
+        return json.loads(self.text)
+
+    @property
+    def kind(self):
+        """What it claims to be: `invariance`, `sound` or `full`."""
+        return self.value()["kind"]
+
+    def check(self, timeout=None):
+        """The verdict of rinv."""
+        return Verdict(answer(["check"], self.text, timeout))
+
+    def recheck(self, timeout=None):
+        """The verdict of tools/recheck.py, which shares nothing with rinv."""
+        return Verdict(told(*printed([sys.executable, TOOLS / "recheck.py"], self.text, timeout)))
+
+    def script(self, system):
+        """What it claims, as a script for `singular` or `macaulay2`; Failed where it has not the format."""
+        status, lines = printed([sys.executable, TOOLS / "recheck_in.py", system], self.text)
+        if status != 0:
+            raise Failed(status, "recheck_in.py")
+        return "\n".join(lines) + "\n"
+
+    def holds_in(self, system, timeout=None):
+        """Whether `singular` or `macaulay2`, which must be installed, finds all that it claims."""
+        return printed(SYSTEMS[system], self.script(system), timeout)[1][-1:] == ["all hold"]
 
 
 class Verdict:
@@ -193,5 +314,4 @@ class Verdict:
 
 def check(certificate, timeout=None):
     """The verdict on a certificate: the text of its JSON, or the dictionary."""
-    text = certificate if isinstance(certificate, str) else json.dumps(certificate, separators=(",", ":"))
-    return Verdict(answer(["check"], text, timeout))
+    return Certificate(certificate).check(timeout)

@@ -21,14 +21,12 @@ def named(text, word):
 
 def main():
     text = sys.stdin.read()
-    system = rinv.System.__new__(rinv.System)
-    system.text = text
-    found = system.generators()
+    found = rinv.System.of(text).generators()
     field, space = named(text, "field"), re.sub(r"\s", "", named(text, "space"))
     symbols = ",".join(f"y{k}" for k in range(1, len(found) + 1)) or "y1"
     print(f"R = PolynomialRing(GF({field}), '{space}', order='degrevlex')")
     print("K = R.fraction_field()")
-    print(f"generators = [K(g) for g in {found!r}]")
+    print(f"generators = [K(g) for g in {list(found)!r}]")
     print(f"S = PolynomialRing(GF({field}), '{symbols}', order='degrevlex').fraction_field()")
     print("def value(expression):")
     print("    e = S(expression)")

@@ -9,7 +9,6 @@ syntax match rinvWord "^\s*budget\s\+\(pairs\|steps\)\>"
 syntax match rinvQuery "^\s*\(def\|laws\|generators\|invariant\|rewrite\)\>"
 syntax match rinvNumber "\<\d\+\>"
 syntax match rinvSymbol "\<y\d\+\>"
-syntax match rinvName "\<[A-Za-z][A-Za-z0-9_]*'\{0,2}" contained
 syntax match rinvOperator "[-+*^/=]"
 " Only tabs and printable ASCII are allowed.
 syntax match rinvForeign "[^\t -~]"
