@@ -1,17 +1,15 @@
 //! The generators of the action's ideal: the group's ideal, the graph of the action, and the section in Z.
 
-ghost use Rattle.std.specs.Prelude.{◌≡◌, ◌<◌, ◌+◌, ◌*◌, ◌^◌, ◌++◌, map, length, nat_lt, IfOk};
+ghost use Rattle.std.specs.Prelude.{◌≡◌, ◌<◌, ◌+◌, ◌*◌, ◌^◌, ◌++◌, length, nat_lt, IfOk};
 ghost use Rattle.std.specs.List.{range_with_len};
 ghost use Rattle.rinv_algebra.specs.Residue.{residue_ops};
-ghost use Rattle.rinv_algebra.specs.Polynomial.{difference, variable, past};
 ghost use Rattle.rinv_algebra.specs.Normal.{IsNormal};
-ghost use Rattle.rinv_algebra.specs.Value.{rename};
 ghost use Rattle.rinv_sub.specs.Places.{ArePlaces};
-ghost use Rattle.rinv_defs.specs.System.{group_count};
 ghost use Rattle.rinv_defs.specs.SystemForm.{IsSystem};
 ghost use Rattle.rinv_defs.specs.Extended.{action_ideal, graph};
-ghost use Rattle.rinv_parts.specs.Points.{AreStored, IsStoredIn};
+ghost use Rattle.rinv_parts.specs.Points.{AreStored};
 ghost use Rattle.rinv_reduction.specs.Localised.{all_count};
+ghost use Rattle.rinv_action.specs.Action.{IsInputOf, IsSectionStored};
 
 use rinv_poly::{KPoly, PolyRing};
 use rinv_ring::{Gf, NoMemory, Ring};
@@ -103,7 +101,7 @@ fn graph_element(
     requires many { length places.now ≡ from.now.vars }
     requires places { ArePlaces ring.now.vars places.now }
     requires inside { place < ring.now.vars }
-    ensures { IfOk result (IsStoredIn ring.now.coeffs ring.now.vars (difference (residue_ops ring.now.coeffs) (variable (residue_ops ring.now.coeffs) place) (rename (residue_ops ring.now.coeffs) places.now f.now))) }
+    ensures { IfOk result (IsInputOf ring.now.coeffs ring.now.vars place places.now f.now) }
 {
     let variable = variable(alloc, place, ring)?;
     // A polynomial has its degree under other names, and numbers modulo a prime have none: want of memory is the only fault.
@@ -121,7 +119,7 @@ fn section_in_z(alloc: Global, system: &System, ring: &PolyRing<Gf>) -> Result<V
     requires system { IsSystem system.now.system }
     requires field { ring.now.coeffs ≡ system.now.system.p }
     requires vars { ring.now.vars ≡ all_count system.now.system }
-    ensures { IfOk result (λ r. AreStored system.now.system.p (all_count system.now.system) (map (past (group_count system.now.system)) system.now.system.section) r.items) }
+    ensures { IfOk result (λ r. IsSectionStored system.now.system r.items) }
 {
     let group = system.group.len();
     let space = system.space.len();

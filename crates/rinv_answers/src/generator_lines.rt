@@ -1,11 +1,9 @@
 //! The lines that show generators.
 
-ghost use Rattle.std.specs.Prelude.{◌≡◌, ◌++◌, length, nat_lt, All, IfOk, OnOk};
-ghost use Rattle.rinv_algebra.specs.Residue.{residue_ops};
-ghost use Rattle.rinv_algebra.specs.Normal.{IsNormal};
+ghost use Rattle.std.specs.Prelude.{◌≡◌, ◌++◌, length, All, IfOk, OnOk};
 ghost use Rattle.rinv_defs.specs.System.{space_count};
 ghost use Rattle.rinv_defs.specs.SystemForm.{IsSystem};
-ghost use Rattle.rinv_frac.specs.Fractions.{IsStored};
+ghost use Rattle.rinv_frac.specs.Fractions.{IsStored, IsPart};
 ghost use Rattle.rinv_answers.specs.GeneratorLines.{complete_line, gen_text, generator_lines, missed_text};
 ghost use Rattle.rinv_lines.specs.Pieces.{fraction_line};
 
@@ -83,7 +81,7 @@ pub fn complete_line(system: &System) -> &'static [u8]
 /// The section misses the orbits, as the polynomial shows.
 pub fn missed_line(alloc: Global, system: &System, element: &KPoly) -> Result<Vec<u8>, NoMemory>
     requires system { IsSystem system.now.system }
-    requires element { IsNormal (residue_ops system.now.system.p) (λ c. nat_lt c system.now.system.p) (space_count system.now.system) element.now }
+    requires element { IsPart system.now.system.p (space_count system.now.system) element.now }
     ensures { IfOk result (λ v. v.items ≡ missed_text system.now.system element.now) }
 {
     let mut line = Vec::from_slice(alloc, b"denied section misses element ")?;

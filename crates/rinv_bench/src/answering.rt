@@ -4,15 +4,15 @@ ghost use Rattle.std.specs.Prelude.{All, List, map, length, IfOk, IfErr};
 ghost use Rattle.rinv_defs.specs.System.{space_count};
 ghost use Rattle.rinv_defs.specs.SystemForm.{IsSystem};
 ghost use Rattle.rinv_defs.specs.Laws.{AllLawsHold};
-ghost use Rattle.rinv_ring.specs.Fault.{DegreesMeet};
 ghost use Rattle.rinv_text.specs.Told.{Told};
 ghost use Rattle.rinv_script.specs.Queries.{Query as Asked};
 ghost use Rattle.rinv_script.specs.Stored.{IsStoredQuery, query_of};
 ghost use Rattle.rinv_lines.specs.Stopped.{StopsSo};
-ghost use Rattle.rinv_queries.specs.Cuts.{IsMetAt, IsUnanswered};
+ghost use Rattle.rinv_queries.specs.Cuts.{IsUnanswered};
 ghost use Rattle.rinv_queries.specs.Known.{IsKnown, Suffices, fractions_of};
 ghost use Rattle.rinv_queries.specs.Outcomes.{AreAnswered};
 ghost use Rattle.rinv_queries.specs.Written.{IsStoredOutcome};
+ghost use Rattle.rinv_bench.specs.Cuts.{IsCutAt};
 
 use rinv_answers::{Cause, Phase, incomplete_line};
 use rinv_lines::{Ending, Stopped};
@@ -54,8 +54,7 @@ pub(crate) fn outcomes_of(
 
 // What is printed where the answer to the query with this number meets degrees.
 fn cut(alloc: Global, number: usize, fault: RingFault) -> Stopped
-    ensures { (told : Told) (queries : List Asked) → AllLawsHold told.system → DegreesMeet (IsMetAt told queries number) fault →
-        StopsSo (IsUnanswered told queries) result }
+    ensures { (told : Told) (queries : List Asked) → AllLawsHold told.system → IsCutAt told queries number fault result }
 {
     let RingFault::Degree { left, right } = fault else {
         return Stopped::NoMemory;

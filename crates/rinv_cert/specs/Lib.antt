@@ -5,3 +5,5 @@ pub mod Shaped
 pub mod KeySets
 -- what an answer of the reader says
 pub mod Faults
+-- its parts, as they are read and written
+pub mod Parts

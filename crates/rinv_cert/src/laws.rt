@@ -3,11 +3,11 @@
 ghost use Rattle.std.specs.Prelude.{◌≡◌, [], ◌∷◌, codes, IfOk, IfErr, MatchOption, None, Some};
 ghost use Rattle.serde_json.specs.View.{view, members_view};
 ghost use Rattle.serde_json.specs.Find.{as_object};
-ghost use Rattle.rinv_json.specs.Reading.{found, or_refuse, each_from};
+ghost use Rattle.rinv_json.specs.Reading.{found, or_refuse};
 ghost use Rattle.rinv_json.specs.Shapes.{under, list_of, poly};
-ghost use Rattle.rinv_json.specs.Keys.{law_keys};
 ghost use Rattle.rinv_json.specs.Certificates.{laws_of};
 ghost use Rattle.rinv_cert.specs.Faults.{Refuses};
+ghost use Rattle.rinv_cert.specs.Parts.{laws_object, laws_read};
 
 use crate::certificate::Polynomial;
 use crate::fault::{CertStop, Part};
@@ -49,8 +49,8 @@ fn six(
 // The cofactors of each law.
 #[tactic(auto, unfolding(rinv_json::specs::Reading::each_from))]
 fn each_law(alloc: Global, laws: &Value) -> Result<Items<Cofactors>, CertStop>
-    ensures ok { IfOk result (λ xs. each_from (codes "laws") (λ name. under name (list_of (list_of poly)) (view laws.now)) 1 law_keys ≡ found xs) }
-    ensures fault { IfErr result (Refuses (each_from (codes "laws") (λ name. under name (list_of (list_of poly)) (view laws.now)) 1 law_keys)) }
+    ensures ok { IfOk result (λ xs. laws_read (view laws.now) ≡ found xs) }
+    ensures fault { IfErr result (Refuses (laws_read (view laws.now))) }
 {
     let l2 = law(alloc, laws, "L2", 1)?;
     let l3 = law(alloc, laws, "L3", 2)?;
@@ -64,7 +64,7 @@ fn each_law(alloc: Global, laws: &Value) -> Result<Items<Cofactors>, CertStop>
 
 // The object under the key.
 fn laws_under<'a>(value: &'a Value) -> Option<&'a Value>
-    ensures { MatchOption result (under (codes "laws") as_object (view value.now) ≡ None) (λ v. under (codes "laws") as_object (view value.now) ≡ as_object (view v.now)) }
+    ensures { MatchOption result (laws_object (view value.now) ≡ None) (λ v. laws_object (view value.now) ≡ as_object (view v.now)) }
 {
     match value.get("laws") {
         Some(laws) => { if laws.is_object() { Some(laws) } else { None } }

@@ -2,11 +2,11 @@
 
 ghost use Rattle.std.specs.Prelude.{◌≡◌, ◌+◌, map, IfOk, IfErr, MatchOption, None, Some};
 ghost use Rattle.serde_json.specs.View.{view, items_view};
-ghost use Rattle.serde_json.specs.Find.{as_array};
 ghost use Rattle.rinv_json.specs.Reading.{found, each_from};
 ghost use Rattle.rinv_json.specs.Shapes.{under};
 ghost use Rattle.rinv_json.specs.Certificates.{one, many};
 ghost use Rattle.rinv_cert.specs.Faults.{part_word, Refuses};
+ghost use Rattle.rinv_cert.specs.Parts.{array_at};
 
 use crate::fault::{CertFault, CertStop, Part};
 use crate::items::Items;
@@ -63,7 +63,7 @@ fn entries<S: Shape>(alloc: Global, values: &[Value], part: Part) -> Result<Item
 
 // The array under a key.
 fn array_under<'a>(value: &'a Value, part: Part) -> Option<&'a [Value]>
-    ensures { MatchOption result (under (part_word part) as_array (view value.now) ≡ None) (λ vs. under (part_word part) as_array (view value.now) ≡ Some (items_view vs.now)) }
+    ensures { MatchOption result (array_at part (view value.now) ≡ None) (λ vs. array_at part (view value.now) ≡ Some (items_view vs.now)) }
 {
     match value.get(part.word()) {
         Some(found) => match found.as_array() {

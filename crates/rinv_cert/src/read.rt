@@ -4,11 +4,12 @@ ghost use Rattle.std.specs.Prelude.{◌≡◌, map, codes, IfOk, IfErr};
 ghost use Rattle.serde_json.specs.View.{view};
 ghost use Rattle.rinv_json.specs.Reading.{found};
 ghost use Rattle.rinv_json.specs.Shapes.{poly};
-ghost use Rattle.rinv_json.specs.Items.{basis_item, pair_item, relation_item};
+ghost use Rattle.rinv_json.specs.Items.{basis_item, pair_item};
 ghost use Rattle.rinv_json.specs.Certificates.{many, system_of, invariance_of, sound_of, basis_of, full_of, body_of, certificate_of};
 ghost use Rattle.rinv_json.specs.Denoted.{DenotesCertificate};
 ghost use Rattle.rinv_cert.specs.Faults.{Refuses, RefusesBytes};
 ghost use Rattle.rinv_cert.specs.Seen.{kind_of, system_by, basis_item_by, pair_item_by, relation_item_by, parts_seen, plain};
+ghost use Rattle.rinv_cert.specs.Parts.{relations_read};
 
 use crate::certificate::{
     BasisItem, Certificate, CertificateOf, Kind, PairItem, Polynomial, RelationItem, System,
@@ -115,8 +116,8 @@ fn pairs(alloc: Global, value: &Value) -> Result<PairItems, CertStop>
 
 // The relations.
 fn relations(alloc: Global, value: &Value) -> Result<RelationItems, CertStop>
-    ensures ok { IfOk result (λ xs. many (codes "relations") (relation_item poly) (view value.now) ≡ found (map (relation_item_by (λ f. f)) xs)) }
-    ensures fault { IfErr result (Refuses (many (codes "relations") (relation_item poly) (view value.now))) }
+    ensures ok { IfOk result (λ xs. relations_read (view value.now) ≡ found (map (relation_item_by (λ f. f)) xs)) }
+    ensures fault { IfErr result (Refuses (relations_read (view value.now))) }
 {
     let items = many::<RelationItem<Polynomial>>(alloc, value, Part::Relations)?;
     Ok(items)

@@ -1,13 +1,14 @@
 //! From a certificate to its JSON text.
 
-ghost use Rattle.std.specs.Prelude.{◌≡◌, ◌+◌, [], ◌∷◌, drop, map, zip, codes, IfOk, OnOk, MatchOption};
-ghost use Rattle.serde_json.specs.Data.{put, no_members, string};
+ghost use Rattle.std.specs.Prelude.{◌≡◌, ◌+◌, [], ◌∷◌, drop, IfOk, OnOk, MatchOption};
+ghost use Rattle.serde_json.specs.Data.{put, no_members};
 ghost use Rattle.serde_json.specs.View.{view, members_view};
 ghost use Rattle.rinv_json.specs.Keys.{kind_word, law_keys};
-ghost use Rattle.rinv_json.specs.Written.{whole_data, poly_data, list_data, with_members, system_members, fraction_members, law_members, basis_members, further_members, members_of, json_text};
+ghost use Rattle.rinv_json.specs.Written.{poly_data, with_members, system_members, fraction_members, law_members, basis_members, members_of, json_text};
 ghost use Rattle.rinv_json.specs.Ranges.{IsWritable};
 ghost use Rattle.rinv_json.specs.Denoted.{DenotesCertificate};
 ghost use Rattle.rinv_cert.specs.Seen.{kind_of, system_by, plain};
+ghost use Rattle.rinv_cert.specs.Parts.{AddsMembers, head_members, kind_members, law_list_members};
 
 use crate::certificate::{Certificate, Kind, Polynomial, System};
 use crate::items::Items;
@@ -44,7 +45,7 @@ impl Kind {
 
 // The version and the kind.
 fn header(alloc: Global, kind: Kind) -> Result<Object, NoMemory>
-    ensures { IfOk result (λ m. members_view m.entries ≡ put (codes "kind") (string (kind_word (kind_of kind))) (put (codes "version") (whole_data 1) no_members)) }
+    ensures { IfOk result (λ m. members_view m.entries ≡ head_members kind) }
 {
     let mut members = Map::new(alloc);
     put(&mut members, alloc, "version", Value::from(1u32))?;
@@ -59,7 +60,7 @@ fn add_system(
     members: &mut Object,
     system: &System<Polynomial>,
 ) -> Result<(), NoMemory>
-    ensures { OnOk result (members_view members.new.entries ≡ with_members (members_view members.old.entries) (system_members poly_data (system_by (λ f. f) system.now))) }
+    ensures { OnOk result (AddsMembers members.old.entries members.new.entries (system_members poly_data (system_by (λ f. f) system.now))) }
 {
     add(alloc, members, "field", &system.field)?;
     add(alloc, members, "group", &system.group)?;
@@ -77,7 +78,7 @@ fn add_fractions(
     members: &mut Object,
     certificate: &Certificate,
 ) -> Result<(), NoMemory>
-    ensures { OnOk result (members_view members.new.entries ≡ with_members (members_view members.old.entries) (fraction_members poly_data (plain certificate.now))) }
+    ensures { OnOk result (AddsMembers members.old.entries members.new.entries (fraction_members poly_data (plain certificate.now))) }
 {
     add(alloc, members, "fractions", &certificate.fractions)?;
     add(alloc, members, "invariance", &certificate.invariance)
@@ -100,7 +101,7 @@ fn law_name(place: usize) -> Option<&'static str>
 
 // The object with the cofactors of each law.
 fn laws(alloc: Global, laws: &[Items<Items<Polynomial>>]) -> Result<Object, NoMemory>
-    ensures { IfOk result (λ m. members_view m.entries ≡ with_members no_members (zip law_keys (map (list_data (list_data poly_data)) laws.now))) }
+    ensures { IfOk result (λ m. members_view m.entries ≡ law_list_members laws.now) }
 {
     let mut members = Map::new(alloc);
     'laws: for k in 0..laws.len() {
@@ -114,7 +115,7 @@ fn laws(alloc: Global, laws: &[Items<Items<Polynomial>>]) -> Result<Object, NoMe
 
 // The cofactors of the laws.
 fn add_laws(alloc: Global, members: &mut Object, certificate: &Certificate) -> Result<(), NoMemory>
-    ensures { OnOk result (members_view members.new.entries ≡ with_members (members_view members.old.entries) (law_members poly_data (plain certificate.now))) }
+    ensures { OnOk result (AddsMembers members.old.entries members.new.entries (law_members poly_data (plain certificate.now))) }
 {
     let laws = laws(alloc, certificate.laws.as_slice())?;
     put(members, alloc, "laws", Value::Object(laws))
@@ -122,7 +123,7 @@ fn add_laws(alloc: Global, members: &mut Object, certificate: &Certificate) -> R
 
 // The basis, the inputs, the pairs and the relations.
 fn add_basis(alloc: Global, members: &mut Object, certificate: &Certificate) -> Result<(), NoMemory>
-    ensures { OnOk result (members_view members.new.entries ≡ with_members (members_view members.old.entries) (basis_members poly_data (plain certificate.now))) }
+    ensures { OnOk result (AddsMembers members.old.entries members.new.entries (basis_members poly_data (plain certificate.now))) }
 {
     add(alloc, members, "basis", &certificate.basis)?;
     add(alloc, members, "inputs", &certificate.inputs)?;
@@ -136,7 +137,7 @@ fn add_further(
     members: &mut Object,
     certificate: &Certificate,
 ) -> Result<(), NoMemory>
-    ensures { OnOk result (members_view members.new.entries ≡ with_members (members_view members.old.entries) (further_members poly_data (kind_of certificate.now.kind) (plain certificate.now))) }
+    ensures { OnOk result (AddsMembers members.old.entries members.new.entries (kind_members certificate.now)) }
 {
     match certificate.kind {
         Kind::Invariance => Ok(()),

@@ -2,7 +2,7 @@
 --   IsBasisItemOf, IsRelationItemOf                    an element with its cofactors, and a relation
 --   HasCommonPart, HasBasisPart, HasNoBasisPart        the keys of every certificate, and those of kind `full` alone
 --   IsCertificateOf                                    the whole
-use Rattle.std.specs.Prelude.{◌≡◌, ℕ, List, [], ◌∷◌, ◌++◌, length, map, zip}
+use Rattle.std.specs.Prelude.{◌≡◌, ℕ, List, [], ◌∷◌, ◌++◌, length, map, zip, ◌<◌, ◌^◌}
 use Rattle.std.specs.List.{AllZip}
 use Rattle.rinv_defs.specs.System.{System, Poly, space_count}
 use Rattle.rinv_defs.specs.Extended.{Relation, graph}
@@ -16,6 +16,7 @@ use Rattle.rinv_acceptance.specs.Raised.{IsRaised}
 use Rattle.rinv_recording.specs.Recorded.{ArePairItemsOf}
 use Rattle.rinv_at_graph.specs.AtGraph.{ProvesAtGraph}
 use Rattle.rinv_generators.specs.Generated.{Generated}
+use Rattle.rinv_json.specs.Ranges.{IsWritable}
 
 -- ---- the basis
 
@@ -63,3 +64,7 @@ pub record HasNoBasisPart (c : Certificate) : Type 0 where
 pub data IsCertificateOf (g : Generated) (c : Certificate) : Type 0 where
   is_full : g.told.system.section ≡ [] → c.kind ≡ full → HasCommonPart g c → HasBasisPart g c → IsCertificateOf g c
   is_sound : ¬ (g.told.system.section ≡ []) → c.kind ≡ sound → HasCommonPart g c → HasNoBasisPart c → IsCertificateOf g c
+
+-- it can be written, where its places are 32-bit numbers
+abbrev pub IsWritableIfFew : Generated → Certificate → Type 0
+IsWritableIfFew g c = length g.action.polys < 2 ^ 32 → length g.fractions < 2 ^ 32 → IsWritable c

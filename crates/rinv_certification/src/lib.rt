@@ -2,13 +2,12 @@
 //! The functions do nothing: each contract is a theorem over the definitions.
 #![tactic(auto)]
 
-ghost use Rattle.std.specs.Prelude.{◌≡◌, ◌<◌, ◌^◌, length, true};
+ghost use Rattle.std.specs.Prelude.{◌≡◌, true};
 ghost use Rattle.rinv_defs.specs.Certificate.{Certificate};
 ghost use Rattle.rinv_defs.specs.Accepted.{IsAccepted};
-ghost use Rattle.rinv_json.specs.Ranges.{IsWritable};
 ghost use Rattle.rinv_acceptance.specs.Fits.{all_multiply};
 ghost use Rattle.rinv_generators.specs.Generated.{Generated, IsGenerators};
-ghost use Rattle.rinv_certification.specs.Made.{IsCertificateOf};
+ghost use Rattle.rinv_certification.specs.Made.{IsCertificateOf, IsWritableIfFew};
 
 /// The certificate of generators is accepted, where the products of its conditions are within the limit on degrees.
 pub fn certificates_are_accepted()
@@ -17,5 +16,5 @@ pub fn certificates_are_accepted()
 
 /// It can be written as JSON and is read back, where it is accepted and its places are 32-bit numbers.
 pub fn certificates_can_be_written()
-    ensures { (g : Generated) (c : Certificate) → IsCertificateOf g c → IsAccepted c → length g.action.polys < 2 ^ 32 → length g.fractions < 2 ^ 32 → IsWritable c }
+    ensures { (g : Generated) (c : Certificate) → IsCertificateOf g c → IsAccepted c → IsWritableIfFew g c }
 {}

@@ -1,15 +1,12 @@
 //! The key `basis`: the elements of the action's basis, with the cofactors of their values at Z = g.
 
-ghost use Rattle.std.specs.Prelude.{◌≡◌, ◌<◌, [], length, get_or, true, IfOk, IfErr};
-ghost use Rattle.std.specs.List.{AllZip};
+ghost use Rattle.std.specs.Prelude.{◌≡◌, ◌<◌, [], length, true, IfOk, IfErr};
 ghost use Rattle.rinv_ring.specs.Fault.{DegreesMeet};
-ghost use Rattle.rinv_cert.specs.Seen.{basis_item_by};
 ghost use Rattle.rinv_acceptance.specs.Fits.{at_graph_multiplies};
-ghost use Rattle.rinv_at_graph.specs.AtGraph.{AtGraphMeets};
 ghost use Rattle.rinv_at_graph.specs.Grounds.{IsGround};
-ghost use Rattle.rinv_certification.specs.Made.{IsBasisItemOf};
 ghost use Rattle.rinv_certify.specs.Meets.{ElementsMeet};
 ghost use Rattle.rinv_certify.specs.Parts.{BasisFits, basis_seen};
+ghost use Rattle.rinv_certify.specs.Stated.{AreBasisItems, ElementMeets, IsElementItem};
 
 use rinv_at_graph::{Ground, proof_at_graph};
 use rinv_cert::{BasisItem, Items, Plain};
@@ -28,9 +25,9 @@ fn basis_item(
     requires section { gens.now.told.system.section ≡ [] }
     requires ground { IsGround gens.now.told.system gens.now.group ground.now }
     requires inside { k < length gens.now.action.polys }
-    ensures item { IfOk result (λ b. IsBasisItemOf gens.now.told.system gens.now.group (get_or gens.now.action.polys k []) (basis_item_by (λ f. f) b)) }
+    ensures item { IfOk result (IsElementItem gens.now k) }
     ensures fits { IfOk result (λ b. at_graph_multiplies gens.now.told.system b.0 b.1 ≡ true) }
-    ensures degree { IfErr result (DegreesMeet (AtGraphMeets gens.now.told.system gens.now.group (get_or gens.now.action.polys k []))) }
+    ensures degree { IfErr result (DegreesMeet (ElementMeets gens.now k)) }
 {
     let action = &gens.action;
     let polys = action.polys.as_slice();
@@ -52,7 +49,7 @@ pub(crate) fn basis_items(
 ) -> Result<Items<BasisItem<Plain>>, RingFault>
     requires section { gens.now.told.system.section ≡ [] }
     requires ground { IsGround gens.now.told.system gens.now.group ground.now }
-    ensures items { IfOk result (λ bs. AllZip (IsBasisItemOf gens.now.told.system gens.now.group) gens.now.action.polys (basis_seen bs)) }
+    ensures items { IfOk result (AreBasisItems gens.now) }
     ensures fits { IfOk result (λ bs. BasisFits gens.now.told.system (basis_seen bs)) }
     ensures degree { IfErr result (DegreesMeet (ElementsMeet gens.now)) }
 {

@@ -1,21 +1,18 @@
 //! Whether the proofs of the generators' invariance multiply out within the limit on degrees.
 
-ghost use Rattle.std.specs.Prelude.{◌≡◌, ◌<◌, [], length, get_or, true, nat_lt, IfErr, IfOk, OnOk};
-ghost use Rattle.rinv_frac.specs.Fractions.{IsStored};
+ghost use Rattle.std.specs.Prelude.{◌≡◌, ◌<◌, length, true, IfErr, IfOk, OnOk};
 ghost use Rattle.std.specs.Result.{MatchResult};
-ghost use Rattle.rinv_algebra.specs.Residue.{residue_ops};
-ghost use Rattle.rinv_algebra.specs.Normal.{IsNormal};
 ghost use Rattle.rinv_algebra.specs.Polynomial.{past};
-ghost use Rattle.rinv_defs.specs.System.{group_count, space_count};
+ghost use Rattle.rinv_defs.specs.System.{group_count};
 ghost use Rattle.rinv_defs.specs.SystemForm.{IsSystem};
 ghost use Rattle.rinv_ring.specs.Fault.{DegreesMeet};
-ghost use Rattle.rinv_parts.specs.Points.{ArePolynomials, AreStored};
-ghost use Rattle.rinv_parts.specs.Substitutions.{IsValue, TakenMeets};
 ghost use Rattle.rinv_acceptance.specs.Fits.{change_multiplies};
 ghost use Rattle.rinv_change.specs.Asked.{IsChangeRing};
-ghost use Rattle.rinv_change.specs.Changes.{change_count};
 ghost use Rattle.rinv_certify.specs.Meets.{ChangeProductsMeet, ChangesMeet};
 ghost use Rattle.rinv_certify.specs.Parts.{ChangesFit};
+ghost use Rattle.rinv_certify.specs.Stated.{AreInChange, ChangeFits, IsIdealStored, IsMovedValue, MovedMeets};
+ghost use Rattle.rinv_certify.specs.InSpace.{IsFractionIn, IsInSpace};
+ghost use Rattle.rinv_frac.specs.Fractions.{IsPart};
 
 use rinv_change::change_ring;
 use rinv_fits::{check_product, check_sums};
@@ -37,8 +34,8 @@ fn moved(
 ) -> Result<KPoly, RingFault>
     requires system { IsSystem system.now.system }
     requires ring { IsChangeRing system.now.system whole.now.coeffs whole.now.vars }
-    requires polynomial { IsNormal (residue_ops system.now.system.p) (λ c. nat_lt c system.now.system.p) (space_count system.now.system) f.now }
-    ensures { MatchResult result (IsValue system.now.system.p (change_count system.now.system) system.now.system.action f.now) (DegreesMeet (TakenMeets system.now.system.p (change_count system.now.system) system.now.system.action f.now)) }
+    requires polynomial { IsInSpace system.now.system f.now }
+    ensures { MatchResult result (IsMovedValue system.now.system f.now) (DegreesMeet (MovedMeets system.now.system f.now)) }
 {
     let space = PolyRing::new(system.field, system.space.len());
     substitute_over_field(&space, alloc, f, whole, &system.action)
@@ -52,8 +49,8 @@ fn behind(
     f: &KPoly,
 ) -> Result<KPoly, NoMemory>
     requires ring { IsChangeRing system.now.system whole.now.coeffs whole.now.vars }
-    requires polynomial { IsNormal (residue_ops system.now.system.p) (λ c. nat_lt c system.now.system.p) (space_count system.now.system) f.now }
-    ensures normal { IfOk result (IsNormal (residue_ops whole.now.coeffs) (λ c. nat_lt c whole.now.coeffs) whole.now.vars) }
+    requires polynomial { IsInSpace system.now.system f.now }
+    ensures normal { IfOk result (IsPart whole.now.coeffs whole.now.vars) }
     ensures value { IfOk result (λ r. r ≡ past (group_count system.now.system) f.now) }
 {
     let space = PolyRing::new(system.field, system.space.len());
@@ -69,10 +66,10 @@ fn products_fit(
     ideal: &[KPoly],
 ) -> Result<(), RingFault>
     requires system { IsSystem system.now.system }
-    requires fraction { IsStored system.now.system.p (space_count system.now.system) fraction.now }
+    requires fraction { IsFractionIn system.now.system fraction.now }
     requires number { length cofactors.now ≡ length system.now.system.ideal }
-    requires cofactors { ArePolynomials system.now.system.p (change_count system.now.system) cofactors.now }
-    requires ideal { AreStored system.now.system.p (change_count system.now.system) system.now.system.ideal ideal.now }
+    requires cofactors { AreInChange system.now.system cofactors.now }
+    requires ideal { IsIdealStored system.now.system ideal.now }
     ensures fits { OnOk result (change_multiplies system.now.system (fraction.now, cofactors.now) ≡ true) }
     ensures degree { IfErr result (DegreesMeet (ChangeProductsMeet system.now.system fraction.now cofactors.now ideal.now)) }
 {
@@ -92,8 +89,8 @@ fn products_fit(
 // Those of the fraction at a place.
 fn change_fits(alloc: Global, gens: &Generators, ideal: &[KPoly], k: usize) -> Result<(), RingFault>
     requires inside { k < length gens.now.fractions }
-    requires ideal { AreStored gens.now.told.system.p (change_count gens.now.told.system) gens.now.told.system.ideal ideal.now }
-    ensures fits { OnOk result (change_multiplies gens.now.told.system (get_or gens.now.fractions k ([], []), get_or gens.now.proofs k []) ≡ true) }
+    requires ideal { IsIdealStored gens.now.told.system ideal.now }
+    ensures fits { OnOk result (ChangeFits gens.now k) }
     ensures degree { IfErr result (DegreesMeet (ChangesMeet gens.now)) }
 {
     let fractions = gens.fractions.as_slice();
@@ -121,7 +118,7 @@ pub(crate) fn changes_fit(alloc: Global, gens: &Generators) -> Result<(), RingFa
 // The group's ideal, in the variables of a change.
 fn ideal_of(alloc: Global, system: &System) -> Result<Vec<KPoly>, NoMemory>
     requires { IsSystem system.now.system }
-    ensures { IfOk result (λ r. AreStored system.now.system.p (change_count system.now.system) system.now.system.ideal r.items) }
+    ensures { IfOk result (λ r. IsIdealStored system.now.system r.items) }
 {
     let whole = change_ring(system);
     let group = PolyRing::new(system.field, system.group.len());

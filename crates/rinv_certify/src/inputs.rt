@@ -1,13 +1,10 @@
 //! The key `inputs`: how the generators of the action's ideal are written in its basis, which begins with those that are not zero.
 
-ghost use Rattle.std.specs.Prelude.{◌≡◌, ◌+◌, ◌<◌, ◌≤◌, ◌++◌, ◌==◌, [], length, get_or, take, if◌then◌else◌, IfOk};
-ghost use Rattle.rinv_algebra.specs.Residue.{residue_ops};
-ghost use Rattle.rinv_algebra.specs.Polynomial.{is_zero};
+ghost use Rattle.std.specs.Prelude.{◌≡◌, ◌+◌, ◌<◌, ◌≤◌, ◌==◌, [], length, if◌then◌else◌, IfOk};
 ghost use Rattle.rinv_defs.specs.System.{space_count};
 ghost use Rattle.rinv_defs.specs.SystemForm.{IsSystem};
-ghost use Rattle.rinv_defs.specs.Extended.{graph};
-ghost use Rattle.rinv_groebner.specs.Journal.{nonzeros};
-ghost use Rattle.rinv_acceptance.specs.Inputs.{input_row, input_rows, stored_one, unit_row};
+ghost use Rattle.rinv_acceptance.specs.Inputs.{stored_one, unit_row};
+ghost use Rattle.rinv_certify.specs.Stated.{is_zero_input, nonzeros_before, row_of_input, rows_of_inputs};
 
 use rinv_cert::{Items, Plain, Term};
 use rinv_generators::kinds::Generators;
@@ -68,7 +65,7 @@ fn row(alloc: Global, system: &System, count: usize, place: usize) -> Result<Ite
 fn is_zero_at(system: &System, k: usize) -> bool
     requires system { IsSystem system.now.system }
     requires inside { k < length system.now.system.ideal + space_count system.now.system }
-    ensures { result ≡ is_zero (residue_ops system.now.system.p) (get_or (system.now.system.ideal ++ graph system.now.system) k []) }
+    ensures { result ≡ is_zero_input system.now.system k }
 {
     let ideal = system.ideal.as_slice();
     if k >= ideal.len() {
@@ -89,8 +86,8 @@ fn row_at(
     requires system { IsSystem system.now.system }
     requires inside { k < length system.now.system.ideal + space_count system.now.system }
     requires low { place ≤ k }
-    ensures row { place ≡ length (nonzeros (residue_ops system.now.system.p) (take k (system.now.system.ideal ++ graph system.now.system))) → IfOk result (λ r. r.0 ≡ input_row system.now.system count (system.now.system.ideal ++ graph system.now.system) k) }
-    ensures next { place ≡ length (nonzeros (residue_ops system.now.system.p) (take k (system.now.system.ideal ++ graph system.now.system))) → IfOk result (λ r. r.1 ≡ length (nonzeros (residue_ops system.now.system.p) (take (k + 1) (system.now.system.ideal ++ graph system.now.system)))) }
+    ensures row { place ≡ nonzeros_before system.now.system k → IfOk result (λ r. r.0 ≡ row_of_input system.now.system count k) }
+    ensures next { place ≡ nonzeros_before system.now.system k → IfOk result (λ r. r.1 ≡ nonzeros_before system.now.system (k + 1)) }
     ensures low { IfOk result (λ r. r.1 ≤ k + 1) }
 {
     let is_nothing = is_zero_at(system, k);
@@ -107,7 +104,7 @@ pub(crate) fn rows_of_inputs(
     alloc: Global,
     gens: &Generators,
 ) -> Result<Items<Items<Plain>>, NoMemory>
-    ensures { IfOk result (λ rows. rows ≡ input_rows gens.now.told.system (length gens.now.action.polys) (gens.now.told.system.ideal ++ graph gens.now.told.system)) }
+    ensures { IfOk result (λ rows. rows ≡ rows_of_inputs gens.now.told.system (length gens.now.action.polys)) }
 {
     let system = &gens.system;
     let action = &gens.action;
@@ -119,7 +116,7 @@ pub(crate) fn rows_of_inputs(
 // The rows over so many elements.
 fn input_rows(alloc: Global, system: &System, count: usize) -> Result<Items<Items<Plain>>, NoMemory>
     requires { IsSystem system.now.system }
-    ensures { IfOk result (λ rows. rows ≡ input_rows system.now.system count (system.now.system.ideal ++ graph system.now.system)) }
+    ensures { IfOk result (λ rows. rows ≡ rows_of_inputs system.now.system count) }
 {
     let mut rows = Vec::new(alloc);
     let mut place = 0;

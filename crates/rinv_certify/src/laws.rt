@@ -1,19 +1,14 @@
 //! Whether the proofs of the laws multiply out within the limit on degrees.
 
 ghost use Rattle.std.specs.Prelude.{◌≡◌, ◌<◌, length, map, true, All, IfErr, IfOk, OnOk};
-ghost use Rattle.std.specs.List.{list_all};
-ghost use Rattle.rinv_algebra.specs.Residue.{residue_ops};
-ghost use Rattle.rinv_algebra.specs.Fits.{combination_fits};
-ghost use Rattle.rinv_defs.specs.System.{ideal_copies};
 ghost use Rattle.rinv_defs.specs.SystemForm.{IsSystem};
-ghost use Rattle.rinv_defs.specs.Laws.{copies};
 ghost use Rattle.rinv_defs.specs.Conditions.{law_fits};
 ghost use Rattle.rinv_ring.specs.Fault.{DegreesMeet};
-ghost use Rattle.rinv_parts.specs.LawNames.{law_of, variables_of};
+ghost use Rattle.rinv_parts.specs.LawNames.{law_of};
 ghost use Rattle.rinv_parts.specs.Parts.{IsLawRing};
-ghost use Rattle.rinv_parts.specs.Points.{AreStored};
 ghost use Rattle.rinv_certify.specs.Meets.{ArraysMeet, LawsMeet, PartsMeet};
 ghost use Rattle.rinv_certify.specs.Parts.{AreCofactors, LawsFit, ProofFits};
+ghost use Rattle.rinv_certify.specs.Stated.{AreCopiesStored, ArraysFit};
 
 use rinv_fits::check_sums;
 use rinv_generators::kinds::Generators;
@@ -58,7 +53,7 @@ fn generators_of(
     ring: &PolyRing<Gf>,
 ) -> Result<Vec<KPoly>, NoMemory>
     requires { IsLawRing system.now.system (law_of law) ring.now.coeffs ring.now.vars }
-    ensures { IfOk result (λ r. AreStored system.now.system.p (variables_of system.now.system (law_of law)) (ideal_copies system.now.system (copies (law_of law))) r.items) }
+    ensures { IfOk result (λ r. AreCopiesStored system.now.system (law_of law) r.items) }
 {
     let group = PolyRing::new(system.field, system.group.len());
     let generators = copied_ideal(alloc, &group, &system.ideal, ring, law.copies())?;
@@ -74,7 +69,7 @@ fn arrays_fit(
 ) -> Result<(), RingFault>
     requires system { IsSystem system.now.system }
     requires arrays { All (λ us. AreCofactors system.now.system (law_of law) us.items) arrays.now }
-    ensures fits { OnOk result (list_all (λ us. combination_fits (residue_ops system.now.system.p) us (ideal_copies system.now.system (copies (law_of law)))) (map (λ us. us.items) arrays.now) ≡ true) }
+    ensures fits { OnOk result (ArraysFit system.now.system (law_of law) (map (λ us. us.items) arrays.now)) }
     ensures degree { IfErr result (DegreesMeet (ArraysMeet system.now.system (law_of law) (map (λ us. us.items) arrays.now))) }
 {
     let ring = PolyRing::new(system.field, variables_of(system, law));

@@ -1,20 +1,15 @@
 //! The common denominator of a relation's coefficients: the product of their denominators, each value once.
 
-ghost use Rattle.std.specs.Prelude.{◌≡◌, ◌++◌, [], ◌∷◌, filter, not, nat_lt, if◌then◌else◌, IfOk, IfErr, OnOk};
-ghost use Rattle.std.specs.List.{list_any};
-ghost use Rattle.rinv_algebra.specs.Ring.{IsSame};
+ghost use Rattle.std.specs.Prelude.{◌≡◌, IfOk, IfErr, OnOk};
 ghost use Rattle.rinv_algebra.specs.Residue.{residue_ops};
-ghost use Rattle.rinv_algebra.specs.Polynomial.{poly_ops, same};
-ghost use Rattle.rinv_algebra.specs.Normal.{IsNormal};
-ghost use Rattle.rinv_defs.specs.System.{space_count};
+ghost use Rattle.rinv_algebra.specs.Polynomial.{same};
 ghost use Rattle.rinv_defs.specs.SystemForm.{IsSystem};
 ghost use Rattle.rinv_ring.specs.Fault.{DegreesMeet};
-ghost use Rattle.rinv_frac.specs.Fractions.{IsStored};
-ghost use Rattle.rinv_tails.specs.Stored.{IsStoredRelation};
-ghost use Rattle.rinv_parts.specs.Points.{ArePolynomials};
-ghost use Rattle.rinv_acceptance.specs.Denominators.{once, product_from, product_of, raised, other_factors};
+ghost use Rattle.rinv_acceptance.specs.Denominators.{once};
 ghost use Rattle.rinv_acceptance.specs.Raised.{denominators};
 ghost use Rattle.rinv_certify.specs.Meets.{FactorsMeet, ProductMeets};
+ghost use Rattle.rinv_certify.specs.InSpace.{AreInSpace, IsFractionIn, IsInSpace, IsRelationIn};
+ghost use Rattle.rinv_certify.specs.Raising.{IsProductFrom, IsProductOf, IsRaisedBy, NumeratorMeets, has_same, with_one, with_other, without};
 
 use crate::products::product_of_two;
 use rinv_frac::{Frac, FracRing};
@@ -26,8 +21,8 @@ use std::alloc::Global;
 
 // Whether two polynomials in the space's variables are the same.
 fn are_same(alloc: Global, system: &System, f: &KPoly, g: &KPoly) -> Result<bool, NoMemory>
-    requires first { IsNormal (residue_ops system.now.system.p) (λ c. nat_lt c system.now.system.p) (space_count system.now.system) f.now }
-    requires second { IsNormal (residue_ops system.now.system.p) (λ c. nat_lt c system.now.system.p) (space_count system.now.system) g.now }
+    requires first { IsInSpace system.now.system f.now }
+    requires second { IsInSpace system.now.system g.now }
     ensures { IfOk result (λ b. b ≡ same (residue_ops system.now.system.p) f.now g.now) }
 {
     let space = PolyRing::new(system.field, system.space.len());
@@ -40,9 +35,9 @@ fn are_same(alloc: Global, system: &System, f: &KPoly, g: &KPoly) -> Result<bool
 
 // Whether the polynomial is the same as one of the list.
 fn is_among(alloc: Global, system: &System, list: &[KPoly], f: &KPoly) -> Result<bool, NoMemory>
-    requires list { ArePolynomials system.now.system.p (space_count system.now.system) list.now }
-    requires polynomial { IsNormal (residue_ops system.now.system.p) (λ c. nat_lt c system.now.system.p) (space_count system.now.system) f.now }
-    ensures { IfOk result (λ b. b ≡ list_any (λ d. same (residue_ops system.now.system.p) d f.now) list.now) }
+    requires list { AreInSpace system.now.system list.now }
+    requires polynomial { IsInSpace system.now.system f.now }
+    ensures { IfOk result (λ b. b ≡ has_same system.now.system f.now list.now) }
 {
     'list: for k in 0..list.len() {
         let same = are_same(alloc, system, &list[k], f)?;
@@ -60,10 +55,10 @@ fn add_once(
     list: &mut Vec<KPoly>,
     f: &KPoly,
 ) -> Result<(), NoMemory>
-    requires list { ArePolynomials system.now.system.p (space_count system.now.system) list.old.items }
-    requires polynomial { IsNormal (residue_ops system.now.system.p) (λ c. nat_lt c system.now.system.p) (space_count system.now.system) f.now }
-    ensures normal { OnOk result (ArePolynomials system.now.system.p (space_count system.now.system) list.new.items) }
-    ensures value { OnOk result (list.new.items ≡ (if list_any (λ d. same (residue_ops system.now.system.p) d f.now) list.old.items then list.old.items else list.old.items ++ f.now ∷ [])) }
+    requires list { AreInSpace system.now.system list.old.items }
+    requires polynomial { IsInSpace system.now.system f.now }
+    ensures normal { OnOk result (AreInSpace system.now.system list.new.items) }
+    ensures value { OnOk result (list.new.items ≡ with_one system.now.system f.now list.old.items) }
 {
     let known = is_among(alloc, system, list, f)?;
     if known {
@@ -82,8 +77,8 @@ pub(crate) fn denominators_once(
     relation: &FracRelation,
 ) -> Result<Vec<KPoly>, NoMemory>
     requires system { IsSystem system.now.system }
-    requires relation { IsStoredRelation system.now.system.p (space_count system.now.system) relation.now }
-    ensures normal { IfOk result (λ ds. ArePolynomials system.now.system.p (space_count system.now.system) ds.items) }
+    requires relation { IsRelationIn system.now.system relation.now }
+    ensures normal { IfOk result (λ ds. AreInSpace system.now.system ds.items) }
     ensures value { IfOk result (λ ds. ds.items ≡ once system.now.system (denominators relation.now)) }
 {
     let field = FracRing::new(PolyRing::new(system.field, system.space.len()));
@@ -105,11 +100,11 @@ fn add_other(
     factor: &KPoly,
     den: &KPoly,
 ) -> Result<(), NoMemory>
-    requires others { ArePolynomials system.now.system.p (space_count system.now.system) others.old.items }
-    requires factor { IsNormal (residue_ops system.now.system.p) (λ c. nat_lt c system.now.system.p) (space_count system.now.system) factor.now }
-    requires denominator { IsNormal (residue_ops system.now.system.p) (λ c. nat_lt c system.now.system.p) (space_count system.now.system) den.now }
-    ensures normal { OnOk result (ArePolynomials system.now.system.p (space_count system.now.system) others.new.items) }
-    ensures value { OnOk result (others.new.items ≡ others.old.items ++ (if same (residue_ops system.now.system.p) factor.now den.now then [] else factor.now ∷ [])) }
+    requires others { AreInSpace system.now.system others.old.items }
+    requires factor { IsInSpace system.now.system factor.now }
+    requires denominator { IsInSpace system.now.system den.now }
+    ensures normal { OnOk result (AreInSpace system.now.system others.new.items) }
+    ensures value { OnOk result (others.new.items ≡ with_other system.now.system factor.now den.now others.old.items) }
 {
     let own = are_same(alloc, system, factor, den)?;
     if own {
@@ -128,10 +123,10 @@ fn factors_but(
     factors: &[KPoly],
     den: &KPoly,
 ) -> Result<Vec<KPoly>, NoMemory>
-    requires factors { ArePolynomials system.now.system.p (space_count system.now.system) factors.now }
-    requires denominator { IsNormal (residue_ops system.now.system.p) (λ c. nat_lt c system.now.system.p) (space_count system.now.system) den.now }
-    ensures normal { IfOk result (λ ds. ArePolynomials system.now.system.p (space_count system.now.system) ds.items) }
-    ensures value { IfOk result (λ ds. ds.items ≡ filter (λ d. not (same (residue_ops system.now.system.p) d den.now)) factors.now) }
+    requires factors { AreInSpace system.now.system factors.now }
+    requires denominator { IsInSpace system.now.system den.now }
+    ensures normal { IfOk result (λ ds. AreInSpace system.now.system ds.items) }
+    ensures value { IfOk result (λ ds. ds.items ≡ without system.now.system den.now factors.now) }
 {
     let mut others = Vec::new(alloc);
     'factors: for k in 0..factors.len() {
@@ -148,10 +143,10 @@ fn times_factors(
     factors: &[KPoly],
 ) -> Result<KPoly, RingFault>
     requires system { IsSystem system.now.system }
-    requires polynomial { IsNormal (residue_ops system.now.system.p) (λ c. nat_lt c system.now.system.p) (space_count system.now.system) f }
-    requires factors { ArePolynomials system.now.system.p (space_count system.now.system) factors.now }
-    ensures normal { IfOk result (IsNormal (residue_ops system.now.system.p) (λ c. nat_lt c system.now.system.p) (space_count system.now.system)) }
-    ensures value { IfOk result (λ r. IsSame (poly_ops (residue_ops system.now.system.p)) r (product_from system.now.system f factors.now)) }
+    requires polynomial { IsInSpace system.now.system f }
+    requires factors { AreInSpace system.now.system factors.now }
+    ensures normal { IfOk result (IsInSpace system.now.system) }
+    ensures value { IfOk result (IsProductFrom system.now.system f factors.now) }
     ensures degree { IfErr result (DegreesMeet (FactorsMeet system.now.system f factors.now)) }
 {
     let space = PolyRing::new(system.field, system.space.len());
@@ -169,9 +164,9 @@ pub(crate) fn common_denominator(
     factors: &[KPoly],
 ) -> Result<KPoly, RingFault>
     requires system { IsSystem system.now.system }
-    requires factors { ArePolynomials system.now.system.p (space_count system.now.system) factors.now }
-    ensures normal { IfOk result (IsNormal (residue_ops system.now.system.p) (λ c. nat_lt c system.now.system.p) (space_count system.now.system)) }
-    ensures value { IfOk result (λ r. IsSame (poly_ops (residue_ops system.now.system.p)) r (product_of system.now.system factors.now)) }
+    requires factors { AreInSpace system.now.system factors.now }
+    ensures normal { IfOk result (IsInSpace system.now.system) }
+    ensures value { IfOk result (IsProductOf system.now.system factors.now) }
     ensures degree { IfErr result (DegreesMeet (ProductMeets system.now.system factors.now)) }
 {
     let space = PolyRing::new(system.field, system.space.len());
@@ -192,11 +187,11 @@ pub(crate) fn raised_numerator(
     c: &Frac,
 ) -> Result<KPoly, RingFault>
     requires system { IsSystem system.now.system }
-    requires factors { ArePolynomials system.now.system.p (space_count system.now.system) factors.now }
-    requires coefficient { IsStored system.now.system.p (space_count system.now.system) c.now }
-    ensures normal { IfOk result (IsNormal (residue_ops system.now.system.p) (λ c. nat_lt c system.now.system.p) (space_count system.now.system)) }
-    ensures value { IfOk result (λ r. IsSame (poly_ops (residue_ops system.now.system.p)) r (raised system.now.system factors.now c.now)) }
-    ensures degree { IfErr result (DegreesMeet (FactorsMeet system.now.system c.now.0 (other_factors system.now.system factors.now c.now))) }
+    requires factors { AreInSpace system.now.system factors.now }
+    requires coefficient { IsFractionIn system.now.system c.now }
+    ensures normal { IfOk result (IsInSpace system.now.system) }
+    ensures value { IfOk result (IsRaisedBy system.now.system factors.now c.now) }
+    ensures degree { IfErr result (DegreesMeet (NumeratorMeets system.now.system factors.now c.now)) }
 {
     let space = PolyRing::new(system.field, system.space.len());
     let field = FracRing::new(PolyRing::new(system.field, system.space.len()));

@@ -1,26 +1,16 @@
 //! The key `relations`: the relations over the common denominators of their coefficients, with the cofactors of their values at Z = g.
 
-ghost use Rattle.std.specs.Prelude.{◌≡◌, ◌<◌, ◌^◌, [], length, get_or, true, nat_lt, IfOk, IfErr};
-ghost use Rattle.rinv_algebra.specs.Residue.{residue_ops};
-ghost use Rattle.rinv_algebra.specs.Polynomial.{difference};
-ghost use Rattle.rinv_algebra.specs.Normal.{IsNormal};
-ghost use Rattle.rinv_reduction.specs.Localised.{all_count};
-ghost use Rattle.rinv_defs.specs.System.{space_count};
+ghost use Rattle.std.specs.Prelude.{◌≡◌, ◌<◌, ◌^◌, [], length, IfOk, IfErr};
 ghost use Rattle.rinv_defs.specs.SystemForm.{IsSystem};
 ghost use Rattle.rinv_ring.specs.Fault.{DegreesMeet};
-ghost use Rattle.rinv_defs.specs.Extended.{Relation};
-ghost use Rattle.rinv_defs.specs.Certificate.{Certificate};
-ghost use Rattle.rinv_cert.specs.Seen.{relation_item_by};
-ghost use Rattle.rinv_poly.specs.Sums.{sum_of};
-ghost use Rattle.rinv_parts.specs.Points.{ArePolynomials, IsStoredIn};
-ghost use Rattle.rinv_tails.specs.Stored.{IsStoredRelation};
-ghost use Rattle.rinv_coefficients.specs.Ties.{TiedRelation, Ties};
-ghost use Rattle.rinv_acceptance.specs.Fits.{relation_multiplies};
+ghost use Rattle.rinv_coefficients.specs.Ties.{Ties};
 ghost use Rattle.rinv_at_graph.specs.Grounds.{IsGround};
-ghost use Rattle.rinv_certification.specs.Made.{AreRelationItemsOf, HasCommonPart, IsRelationItemOf};
+ghost use Rattle.rinv_certification.specs.Made.{AreRelationItemsOf};
 ghost use Rattle.rinv_certify.specs.Meets.{RelationMeets, RelationsMeet};
 ghost use Rattle.rinv_certify.specs.Parts.{RelationsFit, relations_seen};
 ghost use Rattle.rinv_certify.specs.Wholes.{IsWholeOf, WholeFits};
+ghost use Rattle.rinv_certify.specs.Terms.{InEach, IsDifferenceOf, IsItemOf, OfRelation, RelationFits};
+ghost use Rattle.rinv_certify.specs.InSpace.{AreInAll, IsInAll, IsRelationIn};
 
 use crate::raising::{common_denominator, denominators_once};
 use crate::tails::tail_items;
@@ -53,10 +43,10 @@ fn whole_of(
     symbols: &TiedValue,
 ) -> Result<Whole, RingFault>
     requires few { length gens.now.fractions < 2 ^ 32 }
-    requires relation { IsStoredRelation gens.now.told.system.p (space_count gens.now.told.system) relation.now }
+    requires relation { IsRelationIn gens.now.told.system relation.now }
     requires ties { Ties gens.now.told.system.p gens.now.fractions symbols.now relation.now }
     ensures raised { IfOk result (IsWholeOf gens.now relation.now symbols.now) }
-    ensures fits { (c : Certificate) → HasCommonPart gens.now c → IfOk result (WholeFits c relation.now) }
+    ensures fits { InEach gens.now (λ c. IfOk result (WholeFits c relation.now)) }
     ensures degree { IfErr result (DegreesMeet (RelationMeets gens.now relation.now symbols.now)) }
 {
     let system = &gens.system;
@@ -76,9 +66,9 @@ fn less_sum(
     terms: Vec<KPoly>,
 ) -> Result<KPoly, NoMemory>
     requires system { IsSystem system.now.system }
-    requires lead { IsNormal (residue_ops system.now.system.p) (λ c. nat_lt c system.now.system.p) (all_count system.now.system) lead.now }
-    requires terms { ArePolynomials system.now.system.p (all_count system.now.system) terms.items }
-    ensures { IfOk result (IsStoredIn system.now.system.p (all_count system.now.system) (difference (residue_ops system.now.system.p) lead.now (sum_of terms.items))) }
+    requires lead { IsInAll system.now.system lead.now }
+    requires terms { AreInAll system.now.system terms.items }
+    ensures { IfOk result (IsDifferenceOf system.now.system lead.now terms.items) }
 {
     let ring = action_ring(system);
     // Sums and differences of numbers modulo a prime are refused for memory alone.
@@ -102,9 +92,9 @@ fn relation_item(
     requires section { gens.now.told.system.section ≡ [] }
     requires ground { IsGround gens.now.told.system gens.now.group ground.now }
     requires inside { k < length gens.now.relations }
-    ensures item { (r : Relation) (q : TiedRelation) → r ≡ get_or gens.now.monic k r → q ≡ get_or gens.now.relations k q → IfOk result (λ x. IsRelationItemOf gens.now.told.system gens.now.group r q (relation_item_by (λ f. f) x)) }
-    ensures fits { (c : Certificate) → HasCommonPart gens.now c → IfOk result (λ x. relation_multiplies c (relation_item_by (λ f. f) x) ≡ true) }
-    ensures degree { (r : Relation) (q : TiedRelation) → r ≡ get_or gens.now.monic k r → q ≡ get_or gens.now.relations k q → IfErr result (DegreesMeet (RelationMeets gens.now r q)) }
+    ensures item { OfRelation gens.now k (λ r q. IfOk result (IsItemOf gens.now r q)) }
+    ensures fits { InEach gens.now (λ c. IfOk result (RelationFits c)) }
+    ensures degree { OfRelation gens.now k (λ r q. IfErr result (DegreesMeet (RelationMeets gens.now r q))) }
 {
     let monic = &gens.monic;
     let relations = monic.relations.as_slice();

@@ -1,17 +1,15 @@
 //! Terms of relations: Z^a times a polynomial in the space's variables, in all variables.
 
-ghost use Rattle.std.specs.Prelude.{◌≡◌, [], ◌∷◌, length, true, nat_lt, IfOk, IfErr, OnOk};
-ghost use Rattle.rinv_algebra.specs.Ring.{IsSame};
-ghost use Rattle.rinv_algebra.specs.Residue.{residue_ops};
-ghost use Rattle.rinv_algebra.specs.Polynomial.{poly_ops, term_product};
-ghost use Rattle.rinv_algebra.specs.Normal.{IsNormal};
-ghost use Rattle.rinv_algebra.specs.Fits.{product_fits};
+ghost use Rattle.std.specs.Prelude.{◌≡◌, [], ◌∷◌, length, IfOk, IfErr, OnOk};
 ghost use Rattle.rinv_reduction.specs.Localised.{all_count};
 ghost use Rattle.rinv_defs.specs.System.{space_count};
 ghost use Rattle.rinv_defs.specs.SystemForm.{IsSystem};
-ghost use Rattle.rinv_defs.specs.RelationConditions.{z_power, behind_z};
+ghost use Rattle.rinv_defs.specs.RelationConditions.{z_power};
 ghost use Rattle.rinv_ring.specs.Fault.{DegreesMeet};
 ghost use Rattle.rinv_certify.specs.Meets.{TermMeets};
+ghost use Rattle.rinv_certify.specs.Terms.{IsTerm, TermFits};
+ghost use Rattle.rinv_certify.specs.InSpace.{IsInAll, IsInSpace, IsSameOver};
+ghost use Rattle.rinv_frac.specs.Fractions.{IsPart};
 
 use crate::products::product_of_two;
 use rinv_action::action_ring;
@@ -27,8 +25,8 @@ fn z_power(alloc: Global, system: &System, ring: &PolyRing<Gf>, a: &Mono) -> Res
     requires field { ring.now.coeffs ≡ system.now.system.p }
     requires vars { ring.now.vars ≡ all_count system.now.system }
     requires exponents { length a.now ≡ space_count system.now.system }
-    ensures normal { IfOk result (IsNormal (residue_ops ring.now.coeffs) (λ c. nat_lt c ring.now.coeffs) ring.now.vars) }
-    ensures value { IfOk result (λ r. IsSame (poly_ops (residue_ops ring.now.coeffs)) r (z_power system.now.system a.now ∷ [])) }
+    ensures normal { IfOk result (IsPart ring.now.coeffs ring.now.vars) }
+    ensures value { IfOk result (λ r. IsSameOver ring.now.coeffs r (z_power system.now.system a.now ∷ [])) }
 {
     let _degree = a.degree();
     let own = a.to_exponents(alloc)?;
@@ -49,10 +47,10 @@ fn z_power(alloc: Global, system: &System, ring: &PolyRing<Gf>, a: &Mono) -> Res
 pub(crate) fn term(alloc: Global, system: &System, a: &Mono, f: &KPoly) -> Result<KPoly, RingFault>
     requires system { IsSystem system.now.system }
     requires exponents { length a.now ≡ space_count system.now.system }
-    requires polynomial { IsNormal (residue_ops system.now.system.p) (λ c. nat_lt c system.now.system.p) (space_count system.now.system) f.now }
-    ensures normal { IfOk result (IsNormal (residue_ops system.now.system.p) (λ c. nat_lt c system.now.system.p) (all_count system.now.system)) }
-    ensures value { IfOk result (λ r. IsSame (poly_ops (residue_ops system.now.system.p)) r (term_product (residue_ops system.now.system.p) (z_power system.now.system a.now) (behind_z system.now.system f.now))) }
-    ensures fits { OnOk result (product_fits (residue_ops system.now.system.p) (z_power system.now.system a.now ∷ []) (behind_z system.now.system f.now) ≡ true) }
+    requires polynomial { IsInSpace system.now.system f.now }
+    ensures normal { IfOk result (IsInAll system.now.system) }
+    ensures value { IfOk result (IsTerm system.now.system a.now f.now) }
+    ensures fits { OnOk result (TermFits system.now.system a.now f.now) }
     ensures degree { IfErr result (DegreesMeet (TermMeets system.now.system a.now f.now)) }
 {
     let ring = action_ring(system);

@@ -1,17 +1,14 @@
 //! What coefficients are tied to.
 
-ghost use Rattle.std.specs.Prelude.{◌≡◌, ◌<◌, ◌≤◌, ◌^◌, length, true, nat_lt, IfOk, IfErr, OnOk};
-ghost use Rattle.rinv_algebra.specs.Residue.{residue_ops};
-ghost use Rattle.rinv_algebra.specs.Normal.{IsNormal};
-ghost use Rattle.rinv_defs.specs.System.{space_count};
-ghost use Rattle.rinv_defs.specs.Certificate.{Certificate, to_generator};
+ghost use Rattle.std.specs.Prelude.{◌≡◌, ◌<◌, ◌≤◌, ◌^◌, length, IfOk, IfErr, OnOk};
+ghost use Rattle.rinv_defs.specs.Certificate.{to_generator};
 ghost use Rattle.rinv_ring.specs.Fault.{DegreesMeet};
 ghost use Rattle.rinv_cert.specs.Seen.{tied_of};
-ghost use Rattle.rinv_acceptance.specs.Fits.{tie_multiplies};
 ghost use Rattle.rinv_gens.specs.Symbols.{tied_of as symbol_of};
-ghost use Rattle.rinv_certification.specs.Made.{HasCommonPart};
 ghost use Rattle.rinv_certify.specs.Meets.{TieMeets};
 ghost use Rattle.rinv_certify.specs.Parts.{IsInside};
+ghost use Rattle.rinv_certify.specs.Terms.{InEach, TieFits};
+ghost use Rattle.rinv_certify.specs.InSpace.{IsInSpace};
 
 use rinv_cert::Tied;
 use rinv_fits::check_product;
@@ -30,10 +27,10 @@ pub(crate) fn tied(
 ) -> Result<Tied, RingFault>
     requires few { length gens.now.fractions < 2 ^ 32 }
     requires inside { IsInside (length gens.now.fractions) (symbol_of symbol) }
-    requires denominator { IsNormal (residue_ops gens.now.told.system.p) (λ c. nat_lt c gens.now.told.system.p) (space_count gens.now.told.system) d.now }
-    requires numerator { IsNormal (residue_ops gens.now.told.system.p) (λ c. nat_lt c gens.now.told.system.p) (space_count gens.now.told.system) c.now }
+    requires denominator { IsInSpace gens.now.told.system d.now }
+    requires numerator { IsInSpace gens.now.told.system c.now }
     ensures tied { IfOk result (λ t. tied_of t ≡ symbol_of symbol) }
-    ensures fits { (whole : Certificate) → HasCommonPart gens.now whole → OnOk result (tie_multiplies whole d.now c.now (symbol_of symbol) ≡ true) }
+    ensures fits { InEach gens.now (λ whole. OnOk result (TieFits whole d.now c.now (symbol_of symbol))) }
     ensures degree { IfErr result (DegreesMeet (TieMeets gens.now.told.system gens.now.fractions d.now c.now (symbol_of symbol))) }
 {
     match symbol {
@@ -52,9 +49,9 @@ pub(crate) fn tied(
 fn products_fit(gens: &Generators, d: &KPoly, c: &KPoly, k: usize) -> Result<(), RingFault>
     requires first { 0 < k }
     requires last { k ≤ length gens.now.fractions }
-    requires denominator { IsNormal (residue_ops gens.now.told.system.p) (λ c. nat_lt c gens.now.told.system.p) (space_count gens.now.told.system) d.now }
-    requires numerator { IsNormal (residue_ops gens.now.told.system.p) (λ c. nat_lt c gens.now.told.system.p) (space_count gens.now.told.system) c.now }
-    ensures fits { (whole : Certificate) → HasCommonPart gens.now whole → OnOk result (tie_multiplies whole d.now c.now (to_generator k) ≡ true) }
+    requires denominator { IsInSpace gens.now.told.system d.now }
+    requires numerator { IsInSpace gens.now.told.system c.now }
+    ensures fits { InEach gens.now (λ whole. OnOk result (TieFits whole d.now c.now (to_generator k))) }
     ensures degree { IfErr result (DegreesMeet (TieMeets gens.now.told.system gens.now.fractions d.now c.now (to_generator k))) }
 {
     let system = &gens.system;

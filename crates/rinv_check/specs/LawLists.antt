@@ -35,3 +35,7 @@ AreListsFor c law lists = (k : ℕ) → k < length (parts c.system law) → get_
 abbrev pub parts_shown : System → Law → List (List Poly) → List Poly → Bool
 parts_shown s law lists generators =
     list_all (λ k. part_fits s law k && multiplies_out (residue_ops s.p) (part_at s law k) (get_or lists k []) generators) (range_with_len 0 (length (parts s law)))
+
+-- the part at a place fits, and is the sum of the cofactors times the generators
+abbrev pub part_is_shown : System → Law → ℕ → (us gs : List Poly) → Bool
+part_is_shown s law place us gs = part_fits s law place && multiplies_out (residue_ops s.p) (part_at s law place) us gs

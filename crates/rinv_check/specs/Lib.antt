@@ -1,3 +1,4 @@
 pub mod Verdicts
 pub mod Setting
 pub mod LawLists
+pub mod Failures

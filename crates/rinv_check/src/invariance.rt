@@ -1,18 +1,14 @@
 //! The last condition: each fraction is invariant, as its cofactors show.
 
-ghost use Rattle.std.specs.Prelude.{◌≡◌, ◌+◌, ◌<◌, ◌≤◌, ◌^◌, ℕ, List, [], length, zip, not, All, IsTrue, None, true, false, IfOk, IfErr, OnOk, nat_lt};
-ghost use Rattle.std.specs.List.{position_from, list_all};
-ghost use Rattle.rinv_algebra.specs.Ring.{IsSame};
-ghost use Rattle.rinv_algebra.specs.Residue.{residue_ops};
-ghost use Rattle.rinv_algebra.specs.Polynomial.{poly_ops};
+ghost use Rattle.std.specs.Prelude.{◌≡◌, ◌+◌, ◌<◌, ◌≤◌, ◌^◌, ℕ, List, length, All, IsTrue, None, true, IfOk, IfErr, OnOk, nat_lt};
+ghost use Rattle.std.specs.List.{list_all};
 ghost use Rattle.rinv_algebra.specs.Normal.{IsNormal};
 ghost use Rattle.rinv_ring.specs.Fault.{DegreesMeet};
-ghost use Rattle.rinv_defs.specs.Invariant.{change};
 ghost use Rattle.rinv_defs.specs.Format.{format_failure};
-ghost use Rattle.rinv_defs.specs.Conditions.{invariance_is_shown, invariance_failure};
+ghost use Rattle.rinv_defs.specs.Conditions.{invariance_failure};
 ghost use Rattle.rinv_cert.specs.Seen.{plain};
 ghost use Rattle.rinv_form.specs.Forms.{is_stored, are_stored, is_stored_fraction};
-ghost use Rattle.rinv_check.specs.Setting.{setting, change_fits};
+ghost use Rattle.rinv_check.specs.Setting.{change_fits, IsUnfit, IsChangeIn, first_unshown, is_shown};
 
 use rinv_cert::{CertificateOf, Items};
 use rinv_form::sizes_in;
@@ -45,9 +41,9 @@ fn change(
     requires numerator { IsTrue (is_stored rings.now.whole.coeffs rings.now.space.vars numerator.now) }
     requires denominator { IsTrue (is_stored rings.now.whole.coeffs rings.now.space.vars denominator.now) }
     ensures element { IfOk result (λ r. IsTrue (is_stored rings.now.whole.coeffs rings.now.whole.vars r)) }
-    ensures value { IfOk result (λ r. IsSame (poly_ops (residue_ops rings.now.whole.coeffs)) r (change (setting rings.now.whole.coeffs rings.now.group action.now []) (numerator.now, denominator.now))) }
+    ensures value { IfOk result (IsChangeIn rings.now.whole.coeffs rings.now.group action.now numerator.now denominator.now) }
     ensures fits { OnOk result (change_fits rings.now.whole.coeffs rings.now.group action.now numerator.now denominator.now ≡ true) }
-    ensures degree { IfErr result (DegreesMeet (λ _ _. change_fits rings.now.whole.coeffs rings.now.group action.now numerator.now denominator.now ≡ false)) }
+    ensures degree { IfErr result (DegreesMeet (IsUnfit rings.now.whole.coeffs rings.now.group action.now numerator.now denominator.now)) }
 {
     let Rings {
         group,
@@ -78,7 +74,7 @@ fn is_shown(
     requires ideal { All (λ f. IsTrue (is_stored rings.now.whole.coeffs rings.now.whole.vars f)) ideal.now }
     requires fraction { IsTrue (is_stored_fraction rings.now.whole.coeffs rings.now.space.vars fraction.now) }
     requires cofactors { IsTrue (are_stored rings.now.whole.coeffs rings.now.whole.vars (length ideal.now) cofactors.now) }
-    ensures { IfOk result (λ b. b ≡ invariance_is_shown (setting rings.now.whole.coeffs rings.now.group action.now ideal.now) fraction.now cofactors.now) }
+    ensures { IfOk result (λ b. b ≡ is_shown rings.now.whole.coeffs rings.now.group action.now ideal.now fraction.now cofactors.now) }
 {
     let (numerator, denominator) = fraction;
     let change = match change(alloc, rings, action, numerator, denominator) {
@@ -105,7 +101,7 @@ fn first_not_shown(
     requires as_many { length cofactors.now ≡ length fractions.now }
     requires fractions { All (λ f. IsTrue (is_stored_fraction rings.now.whole.coeffs rings.now.space.vars f)) fractions.now }
     requires cofactors { All (λ us. IsTrue (are_stored rings.now.whole.coeffs rings.now.whole.vars (length ideal.now) us)) cofactors.now }
-    ensures { IfOk result (λ o. o ≡ position_from (λ x. not (invariance_is_shown (setting rings.now.whole.coeffs rings.now.group action.now ideal.now) x.0 x.1)) 1 (zip fractions.now cofactors.now)) }
+    ensures { IfOk result (λ o. o ≡ first_unshown rings.now.whole.coeffs rings.now.group action.now ideal.now fractions.now cofactors.now) }
 {
     'fractions: for k in 0..fractions.len() {
         // Numbers of entries are u32: a longer list is answered as want of memory.

@@ -1,16 +1,14 @@
 //! The second condition: the laws hold, as their cofactors show.
 
-ghost use Rattle.std.specs.Prelude.{◌≡◌, ◌<◌, ◌&&◌, [], length, get_or, None, IfOk};
-ghost use Rattle.rinv_algebra.specs.Residue.{residue_ops};
-ghost use Rattle.rinv_algebra.specs.Fits.{multiplies_out};
+ghost use Rattle.std.specs.Prelude.{◌≡◌, ◌<◌, [], length, get_or, None, IfOk};
 ghost use Rattle.rinv_defs.specs.Laws.{parts};
 ghost use Rattle.rinv_defs.specs.Format.{format_failure};
 ghost use Rattle.rinv_defs.specs.Conditions.{law_is_shown, law_failure};
 ghost use Rattle.rinv_cert.specs.Seen.{plain};
 ghost use Rattle.rinv_parts.specs.LawNames.{law_of};
-ghost use Rattle.rinv_parts.specs.Parts.{ArePartsOf, part_at, part_fits};
+ghost use Rattle.rinv_parts.specs.Parts.{ArePartsOf};
 ghost use Rattle.rinv_parts.specs.Points.{ArePolynomials};
-ghost use Rattle.rinv_check.specs.LawLists.{list_place, AreListsFor, AreListsOf, parts_shown};
+ghost use Rattle.rinv_check.specs.LawLists.{list_place, AreListsFor, AreListsOf, parts_shown, part_is_shown};
 
 use crate::named_system::named_system;
 use rinv_cert::{CertificateOf, Items, Kind};
@@ -62,7 +60,7 @@ fn part_is_shown(
     requires many { length cofactors.now ≡ length generators.now }
     requires cofactors { ArePolynomials law_parts.now.ring.coeffs law_parts.now.ring.vars cofactors.now }
     requires generators { ArePolynomials law_parts.now.ring.coeffs law_parts.now.ring.vars generators.now }
-    ensures { IfOk result (λ b. b ≡ (part_fits system.now.system (law_of law_parts.now.law) place && multiplies_out (residue_ops system.now.system.p) (part_at system.now.system (law_of law_parts.now.law) place) cofactors.now generators.now)) }
+    ensures { IfOk result (λ b. b ≡ part_is_shown system.now.system (law_of law_parts.now.law) place cofactors.now generators.now) }
 {
     // Degree comes only where a substitution that the law states does not fit.
     let part = match part_at(alloc, system, law_parts, place) {

@@ -1,19 +1,14 @@
 //! The conditions in their order, and the verdict.
 
-ghost use Rattle.std.specs.Prelude.{◌≡◌, IfOk, None, All};
-ghost use Rattle.rinv_defs.specs.Laws.{AllLawsHold};
-ghost use Rattle.rinv_defs.specs.Invariant.{IsInvariant};
-ghost use Rattle.rinv_defs.specs.Generators.{IsSound};
-ghost use Rattle.rinv_defs.specs.Certificate.{invariance, full};
+ghost use Rattle.std.specs.Prelude.{◌≡◌, IfOk, None};
 ghost use Rattle.rinv_defs.specs.Format.{format_failure};
-ghost use Rattle.rinv_defs.specs.Conditions.{law_failure, basis_failure, inputs_failure, invariance_failure};
-ghost use Rattle.rinv_defs.specs.PairConditions.{pairs_failure};
-ghost use Rattle.rinv_defs.specs.RelationConditions.{relations_failure, leads_failure};
+ghost use Rattle.rinv_defs.specs.Conditions.{invariance_failure};
 ghost use Rattle.rinv_defs.specs.Accepted.{first_failure};
 ghost use Rattle.rinv_cert.specs.Seen.{plain};
 ghost use Rattle.rinv_identities.specs.Graphs.{IsGraph};
 ghost use Rattle.rinv_basis_check.specs.Bases.{IsBasisOf};
 ghost use Rattle.rinv_check.specs.Verdicts.{failure_of, or_after};
+ghost use Rattle.rinv_check.specs.Failures.{AreInvariant, AreSound, HaveLaws, failure_from_basis, failure_from_relations, failure_of_full, failure_of_sound};
 
 use crate::basis::{basis_failure, inputs_failure};
 use crate::invariance::invariance_failure;
@@ -58,7 +53,7 @@ fn from_relations(
     requires form { format_failure (plain stored.now) ≡ None }
     requires graph { IsGraph (plain stored.now).system graph.now }
     requires basis { IsBasisOf (plain stored.now) basis.now }
-    ensures { IfOk result (λ v. failure_of v ≡ or_after 6 (relations_failure (plain stored.now)) (or_after 7 (leads_failure (plain stored.now)) (or_after 8 (invariance_failure (plain stored.now)) None))) }
+    ensures { IfOk result (λ v. failure_of v ≡ failure_from_relations (plain stored.now)) }
 {
     if let Some(index) = relations_failure(alloc, stored, graph)? {
         return Ok(Verdict::No {
@@ -80,7 +75,7 @@ fn from_relations(
 fn from_basis(alloc: Global, stored: &CertificateOf<KPoly>) -> Result<Verdict, NoMemory>
     requires kind { stored.now.kind ≡ Kind.Full }
     requires form { format_failure (plain stored.now) ≡ None }
-    ensures { IfOk result (λ v. failure_of v ≡ or_after 3 (basis_failure (plain stored.now)) (or_after 4 (inputs_failure (plain stored.now)) (or_after 5 (pairs_failure (plain stored.now)) (or_after 6 (relations_failure (plain stored.now)) (or_after 7 (leads_failure (plain stored.now)) (or_after 8 (invariance_failure (plain stored.now)) None)))))) }
+    ensures { IfOk result (λ v. failure_of v ≡ failure_from_basis (plain stored.now)) }
 {
     let graph = graph_of(alloc, stored)?;
     if let Some(index) = basis_failure(alloc, stored, &graph)? {
@@ -110,7 +105,7 @@ fn from_basis(alloc: Global, stored: &CertificateOf<KPoly>) -> Result<Verdict, N
 fn of_sound(alloc: Global, stored: &CertificateOf<KPoly>) -> Result<Verdict, NoMemory>
     requires kind { stored.now.kind ≡ Kind.Sound }
     requires form { format_failure (plain stored.now) ≡ None }
-    ensures { IfOk result (λ v. failure_of v ≡ or_after 2 (law_failure (plain stored.now)) (or_after 8 (invariance_failure (plain stored.now)) None)) }
+    ensures { IfOk result (λ v. failure_of v ≡ failure_of_sound (plain stored.now)) }
 {
     if let Some(index) = law_failure(alloc, stored)? {
         return Ok(Verdict::No {
@@ -126,7 +121,7 @@ fn of_sound(alloc: Global, stored: &CertificateOf<KPoly>) -> Result<Verdict, NoM
 fn of_full(alloc: Global, stored: &CertificateOf<KPoly>) -> Result<Verdict, NoMemory>
     requires kind { stored.now.kind ≡ Kind.Full }
     requires form { format_failure (plain stored.now) ≡ None }
-    ensures { IfOk result (λ v. failure_of v ≡ or_after 2 (law_failure (plain stored.now)) (or_after 3 (basis_failure (plain stored.now)) (or_after 4 (inputs_failure (plain stored.now)) (or_after 5 (pairs_failure (plain stored.now)) (or_after 6 (relations_failure (plain stored.now)) (or_after 7 (leads_failure (plain stored.now)) (or_after 8 (invariance_failure (plain stored.now)) None))))))) }
+    ensures { IfOk result (λ v. failure_of v ≡ failure_of_full (plain stored.now)) }
 {
     if let Some(index) = law_failure(alloc, stored)? {
         return Ok(Verdict::No {
@@ -165,13 +160,13 @@ pub fn check(alloc: Global, certificate: &Certificate) -> Result<Verdict, NoMemo
     ensures exact { IfOk result (λ v. failure_of v ≡ first_failure (plain certificate.now)) }
 
     // The fractions of an accepted certificate are invariant.
-    ensures invariant { IfOk result (λ v. failure_of v ≡ None → All (IsInvariant (plain certificate.now).system) (plain certificate.now).fractions) }
+    ensures invariant { IfOk result (λ v. failure_of v ≡ None → AreInvariant (plain certificate.now)) }
 
     // The laws hold where the kind lists them.
-    ensures laws { IfOk result (λ v. failure_of v ≡ None → ¬ ((plain certificate.now).kind ≡ invariance) → AllLawsHold (plain certificate.now).system) }
+    ensures laws { IfOk result (λ v. failure_of v ≡ None → HaveLaws (plain certificate.now)) }
 
     // One of kind `full` is sound: each invariant fraction, of any degree, is a rational expression in its fractions.
-    ensures sound { IfOk result (λ v. failure_of v ≡ None → (plain certificate.now).kind ≡ full → IsSound (plain certificate.now).system (plain certificate.now).fractions) }
+    ensures sound { IfOk result (λ v. failure_of v ≡ None → AreSound (plain certificate.now)) }
 {
     let stored = match stored(alloc, certificate) {
         Ok(stored) => stored,

@@ -71,3 +71,7 @@ pub record IsHeadline (asked : Command) (bytes text : List ℕ) : Type 0 where
   pub fractions : List Fraction
   pub sound : IsSound system fractions
   pub shown : Shows asked bytes text system fractions
+
+-- where the text ends with `complete`, the headline holds of it
+abbrev pub TellsTruly : Command → (bytes text : List ℕ) → Type 0
+TellsTruly asked bytes text = EndsComplete text → IsHeadline asked bytes text

@@ -3,7 +3,7 @@
 --   HasGroup        a basis of the group's ideal, made within the budget
 --   IsKnown         what each case says of the system
 --   Suffices        a case is enough for a query
-use Rattle.std.specs.Prelude.{List, [], ⊤, IsFalse}
+use Rattle.std.specs.Prelude.{List, [], ⊤, IsFalse, ℕ, Bool}
 use Rattle.rinv_defs.specs.Invariant.{Fraction}
 use Rattle.rinv_defs.specs.Laws.{AllLawsHold}
 use Rattle.rinv_text.specs.Told.{Told}
@@ -15,6 +15,8 @@ use Rattle.rinv_script.specs.Queries.{Query, needs_generators}
 use Rattle.rinv_answers.specs.Budgets.{IsLimited, IsWithin}
 use Rattle.rinv_queries.specs.declared.known.Known.{Known}
 use Rattle.rinv_queries.specs.declared.known.Known.TheVariants.{Lawful, Generated}
+use Rattle.rinv_defs.specs.System.{System}
+use Rattle.rinv_queries.specs.Lines.{lines_before}
 
 -- the generators, where they are known, and else none
 abbrev pub fractions_of : Known → List Fraction
@@ -36,3 +38,7 @@ IsKnown told (Generated found basis) = IsLimited told × ArePieces told found ×
 abbrev pub Suffices : Known → Query → Type 0
 Suffices (Lawful group) q = IsFalse (needs_generators q)
 Suffices (Generated found basis) q = ⊤
+
+-- the lines before the answer to a query
+abbrev pub lines_ahead : System → Known → Bool → ℕ → Query → List ℕ
+lines_ahead s known shown number q = lines_before s (fractions_of known) shown number q

@@ -17,6 +17,8 @@ use Rattle.rinv_queries.specs.declared.lines.Variables.{Variables}
 use Rattle.rinv_queries.specs.declared.answering.Page.{Page}
 use Rattle.rinv_queries.specs.Outcomes.{Answers, AreAnswered, denies}
 use Rattle.rinv_queries.specs.Lines.{query_text, query_lines}
+use Rattle.rinv_queries.specs.declared.known.Known.{Known}
+use Rattle.rinv_queries.specs.Known.{fractions_of}
 
 pub record AreVariables (s : System) (count : ℕ) (v : Variables) : Type 0 where
   pub changes : v.changes ≡ s.group ++ s.space
@@ -47,3 +49,7 @@ module _ (s : System) (cs : List Fraction) where
     pub text : page.text.items ≡ old ++ query_lines s cs shown 1 qs outcomes
     pub is_shown : page.shown ≡ (shown || need_generators qs)
     pub denied : page.denied ≡ list_any denies outcomes
+
+-- the queries are answered with what is known, and their lines stand behind the page
+abbrev pub IsPageAfter : System → Known → Page → List Query → Page → Type 0
+IsPageAfter s known page qs new = IsPage s (fractions_of known) page.shown page.text.items qs new

@@ -6,12 +6,11 @@ ghost use Rattle.rinv_defs.specs.SystemForm.{IsSystem};
 ghost use Rattle.rinv_ring.specs.Fault.{DegreesMeet};
 ghost use Rattle.rinv_script.specs.Queries.{needs_generators};
 ghost use Rattle.rinv_script.specs.Stored.{IsStoredQuery, query_of};
-ghost use Rattle.rinv_queries.specs.Lines.{lines_before};
 ghost use Rattle.rinv_lines.specs.declared.ending.Ending.TheVariants.{Done, Denied};
 ghost use Rattle.rinv_lines.specs.Stopped.{StopsSo};
 ghost use Rattle.rinv_queries.specs.Cuts.{IsUnanswered, MeetsAt, QueryMeets};
-ghost use Rattle.rinv_queries.specs.Known.{IsKnown, Suffices, fractions_of};
-ghost use Rattle.rinv_queries.specs.Written.{AreVariables, IsTurn, IsPage};
+ghost use Rattle.rinv_queries.specs.Known.{IsKnown, Suffices, fractions_of, lines_ahead};
+ghost use Rattle.rinv_queries.specs.Written.{AreVariables, IsTurn, IsPage, IsPageAfter};
 
 use crate::known::Known;
 use crate::lines::{Variables, variables_of, write_head, write_outcome};
@@ -108,7 +107,7 @@ fn turns(
     requires queries { All (IsStoredQuery system.now.system.p (space_count system.now.system)) (map query_of queries.now) }
     requires enough { All (Suffices known.now) (map query_of queries.now) }
     requires fresh { page.denied ≡ false }
-    ensures answered { IfOk result (IsPage system.now.system (fractions_of known.now) page.shown page.text.items (map query_of queries.now)) }
+    ensures answered { IfOk result (IsPageAfter system.now.system known.now page (map query_of queries.now)) }
     ensures stop { IfErr result (MeetsAt system.now (map query_of queries.now)) }
 {
     let names = variables_of(alloc, system, known.count())?;
@@ -183,7 +182,7 @@ fn write_before(
 ) -> Result<(), NoMemory>
     requires system { IsSystem system.now.system }
     requires known { IsKnown system.now known.now }
-    ensures { OnOk result (out.new.items ≡ out.old.items ++ lines_before system.now.system (fractions_of known.now) shown number (query_of query.now)) }
+    ensures { OnOk result (out.new.items ≡ out.old.items ++ lines_ahead system.now.system known.now shown number (query_of query.now)) }
 {
     match query {
         Query::Laws | Query::Invariant(_) => {}

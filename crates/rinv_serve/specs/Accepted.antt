@@ -3,6 +3,7 @@ use Rattle.std.specs.Prelude.{◌≡◌, ℕ, List, ◌++◌, String, Option, So
 use Rattle.std.specs.declared.alloc.Global.{Global}
 use Rattle.rinv_commands.specs.declared.command.Command.TheVariants.{Certify, Check}
 use Rattle.rinv_lines.specs.declared.ending.Ending.{Ending}
+use Rattle.rinv_lines.specs.declared.ending.Ending.TheVariants as ends
 use Rattle.rinv_serve.specs.declared.status.Status.TheVariants.{Done}
 use Rattle.rinv_serve.specs.Run.{IsRun, Delivers}
 use Rattle.rinv_serve.specs.Words.{command_of}
@@ -19,3 +20,9 @@ pub record Checks (words : List (String Global)) (left left' written written' : 
   pub words_ask : command_of words ≡ Some Check
   pub source : left ≡ Some text
   pub run : Delivers words left left' written written' ending
+
+-- what the one wrote, the other accepts, whatever their words, sources and sinks
+abbrev pub CertifiedIsAccepted : Type 0
+CertifiedIsAccepted = (words : List (String Global)) (left left' written written' : Option (List ℕ)) (before text : List ℕ) →
+    (other : List (String Global)) (source source' sink sink' : Option (List ℕ)) (ending : Ending) →
+    Certifies words left left' written written' before text → Checks other source source' sink sink' text ending → ending ≡ ends.Done
