@@ -1,14 +1,13 @@
 //! The terms of a polynomial once more: as they are, times an element, or in later variables.
 
 ghost use Rattle.std.specs.Prelude.{◌≡◌, ◌<◌, ◌≤◌, ◌+◌, ◌^◌, ◌++◌, ℕ, List, length, replicate, All, IsTrue, IfOk, IfErr, OnOk};
-ghost use Rattle.rinv_algebra.specs.Ring.{IsSame};
 ghost use Rattle.rinv_algebra.specs.Monomial.{total_degree, max_degree};
-ghost use Rattle.rinv_algebra.specs.Polynomial.{poly_ops, scale, past};
-ghost use Rattle.rinv_algebra.specs.Normal.{IsNormal};
+ghost use Rattle.rinv_algebra.specs.Polynomial.{scale, past};
 ghost use Rattle.rinv_ring.specs.Operation.{multiplies};
 ghost use Rattle.rinv_ring.specs.Fault.{DegreesMeet};
 ghost use Rattle.rinv_poly.specs.Terms.{IsTerm, IsPushed};
-ghost use Rattle.rinv_poly.specs.Faults.{MultipleMeets};
+ghost use Rattle.rinv_poly.specs.Polynomials.{IsOver, SameOver};
+ghost use Rattle.rinv_poly.specs.Refusals.{MultipleFaults};
 
 use crate::polynomial::push_term;
 use rinv_mono::Mono;
@@ -42,10 +41,10 @@ pub fn scaled<R: Ring>(
     terms: &[(Mono, R::Elem)],
 ) -> Result<Vec<(Mono, R::Elem)>, RingFault>
     requires factor { IsTrue (R.is_element coeffs.now c.now) }
-    requires terms { IsNormal (R.ops coeffs.now) (R.is_element coeffs.now) vars terms.now }
-    ensures normal { IfOk result (λ v. IsNormal (R.ops coeffs.now) (R.is_element coeffs.now) vars v.items) }
-    ensures value { IfOk result (λ v. IsSame (poly_ops (R.ops coeffs.now)) v.items (scale (R.ops coeffs.now) c.now terms.now)) }
-    ensures degree { IfErr result (DegreesMeet (MultipleMeets (R.ops coeffs.now) (R.is_element coeffs.now) (R.too_high coeffs.now) c.now terms.now)) }
+    requires terms { IsOver R.ops R.is_element coeffs.now vars terms.now }
+    ensures normal { IfOk result (λ v. IsOver R.ops R.is_element coeffs.now vars v.items) }
+    ensures value { IfOk result (λ v. SameOver R.ops coeffs.now v.items (scale (R.ops coeffs.now) c.now terms.now)) }
+    ensures degree { IfErr result (MultipleFaults R.ops R.is_element R.too_high coeffs.now c.now terms.now) }
 {
     let mut out = Vec::with_capacity(alloc, terms.len())?;
     for (mono, d) in terms {
