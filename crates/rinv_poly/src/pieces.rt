@@ -1,9 +1,10 @@
 //! Products of many terms, added up piece by piece: memory follows the result, and not the number of products of two terms.
 
-ghost use Rattle.std.specs.Prelude.{◌≡◌, ℕ, List, ◌++◌, All, IfOk, OnOk};
+ghost use Rattle.std.specs.Prelude.{◌≡◌, ℕ, List, All, IfOk, OnOk};
 ghost use Rattle.rinv_algebra.specs.Polynomial.{product};
 ghost use Rattle.rinv_poly.specs.Terms.{IsTerm, FitWith};
-ghost use Rattle.rinv_poly.specs.Polynomials.{IsOver, SameOver, IsProductOver};
+ghost use Rattle.rinv_poly.specs.Polynomials.{IsOver, IsProductOver, IsSumOver};
+ghost use Rattle.rinv_poly.specs.Changes.{ComeTo};
 
 use crate::collect::collected;
 use crate::merge::{Sign, merged};
@@ -53,7 +54,7 @@ fn settled<R: Ring>(
     requires piece { All (IsTerm (R.is_element coeffs.now) vars) piece.items }
     ensures sum { IfOk result (λ r. IsOver R.ops R.is_element coeffs.now vars r.0.items) }
     ensures piece { IfOk result (λ r. All (IsTerm (R.is_element coeffs.now) vars) r.1.items) }
-    ensures value { IfOk result (λ r. SameOver R.ops coeffs.now (r.0.items ++ r.1.items) (sum.items ++ piece.items)) }
+    ensures value { IfOk result (ComeTo R.ops coeffs.now sum piece) }
 {
     if piece.len() < PIECE || piece.len() < sum.len() {
         return Ok((sum, piece));
@@ -73,7 +74,7 @@ fn total<R: Ring>(
     requires sum { IsOver R.ops R.is_element coeffs.now vars sum.items }
     requires piece { All (IsTerm (R.is_element coeffs.now) vars) piece.items }
     ensures normal { IfOk result (λ v. IsOver R.ops R.is_element coeffs.now vars v.items) }
-    ensures value { IfOk result (λ v. SameOver R.ops coeffs.now v.items (sum.items ++ piece.items)) }
+    ensures value { IfOk result (λ v. IsSumOver R.ops coeffs.now v.items sum.items piece.items) }
 {
     let terms = collected(coeffs, alloc, vars, piece)?;
     if sum.is_empty() {

@@ -2,12 +2,13 @@
 
 ghost use Rattle.std.specs.Prelude.{◌≡◌, ◌<◌, ◌≤◌, ◌+◌, ◌^◌, ◌++◌, ℕ, List, length, replicate, All, IsTrue, IfOk, IfErr, OnOk};
 ghost use Rattle.rinv_algebra.specs.Monomial.{total_degree, max_degree};
-ghost use Rattle.rinv_algebra.specs.Polynomial.{scale, past};
+ghost use Rattle.rinv_algebra.specs.Polynomial.{past};
 ghost use Rattle.rinv_ring.specs.Operation.{multiplies};
 ghost use Rattle.rinv_ring.specs.Fault.{DegreesMeet};
-ghost use Rattle.rinv_poly.specs.Terms.{IsTerm, IsPushed};
-ghost use Rattle.rinv_poly.specs.Polynomials.{IsOver, SameOver};
+ghost use Rattle.rinv_poly.specs.Terms.{IsTerm};
+ghost use Rattle.rinv_poly.specs.Polynomials.{IsOver, IsScaledOver};
 ghost use Rattle.rinv_poly.specs.Refusals.{MultipleFaults};
+ghost use Rattle.rinv_poly.specs.Changes.{PushesProduct};
 
 use crate::polynomial::push_term;
 use rinv_mono::Mono;
@@ -43,7 +44,7 @@ pub fn scaled<R: Ring>(
     requires factor { IsTrue (R.is_element coeffs.now c.now) }
     requires terms { IsOver R.ops R.is_element coeffs.now vars terms.now }
     ensures normal { IfOk result (λ v. IsOver R.ops R.is_element coeffs.now vars v.items) }
-    ensures value { IfOk result (λ v. SameOver R.ops coeffs.now v.items (scale (R.ops coeffs.now) c.now terms.now)) }
+    ensures value { IfOk result (λ v. IsScaledOver R.ops coeffs.now v.items c.now terms.now) }
     ensures degree { IfErr result (MultipleFaults R.ops R.is_element R.too_high coeffs.now c.now terms.now) }
 {
     let mut out = Vec::with_capacity(alloc, terms.len())?;
@@ -64,7 +65,7 @@ pub fn push_multiple<R: Ring>(
 ) -> Result<(), RingFault>
     requires left { IsTrue (R.is_element coeffs.now c.now) }
     requires right { IsTrue (R.is_element coeffs.now d.now) }
-    ensures value { OnOk result (IsPushed (R.ops coeffs.now) (R.is_element coeffs.now) out.old.items out.new.items mono ((R.ops coeffs.now).mul c.now d.now)) }
+    ensures value { OnOk result (PushesProduct R.ops R.is_element coeffs.now mono c.now d.now out.old out.new) }
     ensures degree { IfErr result (DegreesMeet (R.too_high coeffs.now multiplies c.now d.now)) }
 {
     let multiple = coeffs.mul(alloc, c, d)?;
