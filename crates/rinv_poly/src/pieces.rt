@@ -1,10 +1,10 @@
 //! Products of many terms, added up piece by piece: memory follows the result, and not the number of products of two terms.
 
-ghost use Rattle.std.specs.Prelude.{◌≡◌, ℕ, List, ◌++◌, All, IfOk, OnOk};
-ghost use Rattle.rinv_algebra.specs.Ring.{IsSame};
-ghost use Rattle.rinv_algebra.specs.Polynomial.{poly_ops, product};
-ghost use Rattle.rinv_algebra.specs.Normal.{IsNormal};
+ghost use Rattle.std.specs.Prelude.{◌≡◌, ℕ, List, All, IfOk, OnOk};
+ghost use Rattle.rinv_algebra.specs.Polynomial.{product};
 ghost use Rattle.rinv_poly.specs.Terms.{IsTerm, FitWith};
+ghost use Rattle.rinv_poly.specs.Polynomials.{IsOver, IsProductOver, IsSumOver};
+ghost use Rattle.rinv_poly.specs.Changes.{ComeTo};
 
 use crate::collect::collected;
 use crate::merge::{Sign, merged};
@@ -24,10 +24,10 @@ pub fn product_by_pieces<R: Ring>(
     a: &[(Mono, R::Elem)],
     b: &[(Mono, R::Elem)],
 ) -> Result<Vec<(Mono, R::Elem)>, RingFault>
-    requires left { IsNormal (R.ops coeffs.now) (R.is_element coeffs.now) vars a.now }
-    requires right { IsNormal (R.ops coeffs.now) (R.is_element coeffs.now) vars b.now }
-    ensures normal { IfOk result (λ v. IsNormal (R.ops coeffs.now) (R.is_element coeffs.now) vars v.items) }
-    ensures value { IfOk result (λ v. IsSame (poly_ops (R.ops coeffs.now)) v.items (product (R.ops coeffs.now) a.now b.now)) }
+    requires left { IsOver R.ops R.is_element coeffs.now vars a.now }
+    requires right { IsOver R.ops R.is_element coeffs.now vars b.now }
+    ensures normal { IfOk result (λ v. IsOver R.ops R.is_element coeffs.now vars v.items) }
+    ensures value { IfOk result (λ v. IsProductOver R.ops coeffs.now v.items a.now b.now) }
     ensures fits { OnOk result (All (λ s. FitWith s.0 b.now) a.now) }
 {
     let mut sum = Vec::new(alloc);
@@ -50,11 +50,11 @@ fn settled<R: Ring>(
     sum: Vec<(Mono, R::Elem)>,
     piece: Vec<(Mono, R::Elem)>,
 ) -> Result<(Vec<(Mono, R::Elem)>, Vec<(Mono, R::Elem)>), RingFault>
-    requires sum { IsNormal (R.ops coeffs.now) (R.is_element coeffs.now) vars sum.items }
+    requires sum { IsOver R.ops R.is_element coeffs.now vars sum.items }
     requires piece { All (IsTerm (R.is_element coeffs.now) vars) piece.items }
-    ensures sum { IfOk result (λ r. IsNormal (R.ops coeffs.now) (R.is_element coeffs.now) vars r.0.items) }
+    ensures sum { IfOk result (λ r. IsOver R.ops R.is_element coeffs.now vars r.0.items) }
     ensures piece { IfOk result (λ r. All (IsTerm (R.is_element coeffs.now) vars) r.1.items) }
-    ensures value { IfOk result (λ r. IsSame (poly_ops (R.ops coeffs.now)) (r.0.items ++ r.1.items) (sum.items ++ piece.items)) }
+    ensures value { IfOk result (ComeTo R.ops coeffs.now sum piece) }
 {
     if piece.len() < PIECE || piece.len() < sum.len() {
         return Ok((sum, piece));
@@ -71,10 +71,10 @@ fn total<R: Ring>(
     sum: Vec<(Mono, R::Elem)>,
     piece: Vec<(Mono, R::Elem)>,
 ) -> Result<Vec<(Mono, R::Elem)>, RingFault>
-    requires sum { IsNormal (R.ops coeffs.now) (R.is_element coeffs.now) vars sum.items }
+    requires sum { IsOver R.ops R.is_element coeffs.now vars sum.items }
     requires piece { All (IsTerm (R.is_element coeffs.now) vars) piece.items }
-    ensures normal { IfOk result (λ v. IsNormal (R.ops coeffs.now) (R.is_element coeffs.now) vars v.items) }
-    ensures value { IfOk result (λ v. IsSame (poly_ops (R.ops coeffs.now)) v.items (sum.items ++ piece.items)) }
+    ensures normal { IfOk result (λ v. IsOver R.ops R.is_element coeffs.now vars v.items) }
+    ensures value { IfOk result (λ v. IsSumOver R.ops coeffs.now v.items sum.items piece.items) }
 {
     let terms = collected(coeffs, alloc, vars, piece)?;
     if sum.is_empty() {

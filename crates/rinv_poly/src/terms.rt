@@ -1,14 +1,14 @@
 //! The terms of a polynomial once more: as they are, times an element, or in later variables.
 
 ghost use Rattle.std.specs.Prelude.{◌≡◌, ◌<◌, ◌≤◌, ◌+◌, ◌^◌, ◌++◌, ℕ, List, length, replicate, All, IsTrue, IfOk, IfErr, OnOk};
-ghost use Rattle.rinv_algebra.specs.Ring.{IsSame};
 ghost use Rattle.rinv_algebra.specs.Monomial.{total_degree, max_degree};
-ghost use Rattle.rinv_algebra.specs.Polynomial.{poly_ops, scale, past};
-ghost use Rattle.rinv_algebra.specs.Normal.{IsNormal};
+ghost use Rattle.rinv_algebra.specs.Polynomial.{past};
 ghost use Rattle.rinv_ring.specs.Operation.{multiplies};
 ghost use Rattle.rinv_ring.specs.Fault.{DegreesMeet};
-ghost use Rattle.rinv_poly.specs.Terms.{IsTerm, IsPushed};
-ghost use Rattle.rinv_poly.specs.Faults.{MultipleMeets};
+ghost use Rattle.rinv_poly.specs.Terms.{IsTerm};
+ghost use Rattle.rinv_poly.specs.Polynomials.{IsOver, IsScaledOver};
+ghost use Rattle.rinv_poly.specs.Refusals.{MultipleFaults};
+ghost use Rattle.rinv_poly.specs.Changes.{PushesProduct};
 
 use crate::polynomial::push_term;
 use rinv_mono::Mono;
@@ -42,10 +42,10 @@ pub fn scaled<R: Ring>(
     terms: &[(Mono, R::Elem)],
 ) -> Result<Vec<(Mono, R::Elem)>, RingFault>
     requires factor { IsTrue (R.is_element coeffs.now c.now) }
-    requires terms { IsNormal (R.ops coeffs.now) (R.is_element coeffs.now) vars terms.now }
-    ensures normal { IfOk result (λ v. IsNormal (R.ops coeffs.now) (R.is_element coeffs.now) vars v.items) }
-    ensures value { IfOk result (λ v. IsSame (poly_ops (R.ops coeffs.now)) v.items (scale (R.ops coeffs.now) c.now terms.now)) }
-    ensures degree { IfErr result (DegreesMeet (MultipleMeets (R.ops coeffs.now) (R.is_element coeffs.now) (R.too_high coeffs.now) c.now terms.now)) }
+    requires terms { IsOver R.ops R.is_element coeffs.now vars terms.now }
+    ensures normal { IfOk result (λ v. IsOver R.ops R.is_element coeffs.now vars v.items) }
+    ensures value { IfOk result (λ v. IsScaledOver R.ops coeffs.now v.items c.now terms.now) }
+    ensures degree { IfErr result (MultipleFaults R.ops R.is_element R.too_high coeffs.now c.now terms.now) }
 {
     let mut out = Vec::with_capacity(alloc, terms.len())?;
     for (mono, d) in terms {
@@ -65,7 +65,7 @@ pub fn push_multiple<R: Ring>(
 ) -> Result<(), RingFault>
     requires left { IsTrue (R.is_element coeffs.now c.now) }
     requires right { IsTrue (R.is_element coeffs.now d.now) }
-    ensures value { OnOk result (IsPushed (R.ops coeffs.now) (R.is_element coeffs.now) out.old.items out.new.items mono ((R.ops coeffs.now).mul c.now d.now)) }
+    ensures value { OnOk result (PushesProduct R.ops R.is_element coeffs.now mono c.now d.now out.old out.new) }
     ensures degree { IfErr result (DegreesMeet (R.too_high coeffs.now multiplies c.now d.now)) }
 {
     let multiple = coeffs.mul(alloc, c, d)?;
