@@ -5,7 +5,7 @@ ghost use Rattle.rinv_groebner.specs.Basis.{AreNonzero};
 ghost use Rattle.rinv_buch.specs.Kinds.{journal_of};
 ghost use Rattle.rinv_buch.specs.Runs.{SettlesBy, SettlesWith, HaltsEntered, HaltsTurn, RunsOn, SettlesPair, TakesPair, TurnsBy, TurnsOnce};
 ghost use Rattle.rinv_buch.specs.Spent.{IsKept, KeepsLimits, SpendsOn};
-ghost use Rattle.rinv_div.specs.Polynomials.{AreOf, IsOf};
+ghost use Rattle.rinv_poly.specs.Polynomials.{AreOf, IsOf};
 ghost use Rattle.rinv_buch.specs.Causes.{HaltsOn};
 ghost use Rattle.rinv_buch.specs.Bases.{HasAllPairs, IsBasisFor, IsMadeFrom, SparesPairs};
 

@@ -3,7 +3,7 @@
 ghost use Rattle.std.specs.Prelude.{◌≡◌, [], false, IfOk, OnOk};
 ghost use Rattle.rinv_algebra.specs.Polynomial.{is_zero};
 ghost use Rattle.rinv_buch.specs.Elements.{AreNonzeros, GainsElement, PreparedFor};
-ghost use Rattle.rinv_div.specs.Polynomials.{AreOf, IsOf};
+ghost use Rattle.rinv_poly.specs.Polynomials.{AreOf, IsOf};
 
 use rinv_div::Divisors;
 use rinv_mono::{Mono, MonoOrder};

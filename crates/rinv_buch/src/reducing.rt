@@ -5,7 +5,8 @@ ghost use Rattle.std.specs.List.Sorted.{IsPermutation};
 ghost use Rattle.rinv_algebra.specs.Polynomial.{is_zero};
 ghost use Rattle.rinv_groebner.specs.Reduced.{IsMonicOf, Ascend};
 ghost use Rattle.rinv_buch.specs.Reducing.{is_kept_place, AreKept, AreKeptPlaces, AscendBy, IsNoLead, IsReducedFor, LeadIsNew, LeadsAbove, LeadsAreApart, LeadsBelow, MadeAt, MakingTooHigh, MonicTooHigh, ReducingTooHigh, StandKept};
-ghost use Rattle.rinv_div.specs.Polynomials.{AreOf, IsOf, NoneIsZero};
+ghost use Rattle.rinv_poly.specs.Polynomials.{AreOf, IsOf};
+ghost use Rattle.rinv_div.specs.Polynomials.{NoneIsZero};
 ghost use Rattle.rinv_buch.specs.Bases.{IsBasisFor};
 ghost use Rattle.rinv_buch.specs.Elements.{PreparedFor};
 

@@ -3,7 +3,7 @@
 ghost use Rattle.std.specs.Prelude.{◌≡◌, length, false, IsTrue, IfOk, IfErr};
 ghost use Rattle.rinv_algebra.specs.Polynomial.{is_zero};
 ghost use Rattle.rinv_buch.specs.SPolynomials.{IsLead, IsLeadCoefficient, IsLowLcm, IsMultiple, IsNonzero, IsSPolynomial, ProductTooHigh, SPolynomialTooHigh};
-ghost use Rattle.rinv_div.specs.Polynomials.{IsOf};
+ghost use Rattle.rinv_poly.specs.Polynomials.{IsOf};
 
 use rinv_mono::{Mono, MonoFault, MonoOrder};
 use rinv_poly::{Poly, PolyRing};

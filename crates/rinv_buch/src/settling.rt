@@ -8,7 +8,7 @@ ghost use Rattle.rinv_div.specs.Stops.{StopsBy, StopsWith};
 ghost use Rattle.rinv_buch.specs.Spent.{IsKept, KeepsLimits};
 ghost use Rattle.rinv_buch.specs.Runs.{SettlesBy, SettlesWith, steps_with, HasNoThird, SettlesPair, StopsAt};
 ghost use Rattle.rinv_buch.specs.Elements.{IsLowPair, LeadsAre, PreparedFor};
-ghost use Rattle.rinv_div.specs.Polynomials.{IsOf};
+ghost use Rattle.rinv_poly.specs.Polynomials.{IsOf};
 
 use crate::elements::Elements;
 use crate::s_polynomial::s_polynomial_of;

@@ -10,18 +10,6 @@ use Rattle.rinv_algebra.specs.Leading.{leading_coefficient}
 use Rattle.rinv_poly.specs.declared.polynomial_ring.PolyRing.{PolyRing}
 use Rattle.rinv_div.specs.Arranged.{IsArranged, AreChanges, AreChanged}
 
--- f is a polynomial of the ring, as it is stored
-abbrev pub IsOf : {R E : Type 0} → (R → RingOps E) → (R → E → Bool) → PolyRing R E → Polynomial E → Type 0
-IsOf ops is_element ring f = IsNormal (ops ring.coeffs) (is_element ring.coeffs) ring.vars f
-
--- the same of each of a list
-abbrev pub AreOf : {R E : Type 0} → (R → RingOps E) → (R → E → Bool) → PolyRing R E → List (Polynomial E) → Type 0
-AreOf ops is_element ring fs = All (IsNormal (ops ring.coeffs) (is_element ring.coeffs) ring.vars) fs
-
--- f and g are the same polynomial over the ring
-abbrev pub SameIn : {R E : Type 0} → (R → RingOps E) → PolyRing R E → Polynomial E → Polynomial E → Type 0
-SameIn ops ring f g = IsSame (poly_ops (ops ring.coeffs)) f g
-
 -- none of the polynomials is zero
 abbrev pub NoneIsZero : {R E : Type 0} → (R → RingOps E) → PolyRing R E → List (Polynomial E) → Type 0
 NoneIsZero ops ring hs = All (λ h. is_zero (ops ring.coeffs) h ≡ false) hs
@@ -61,10 +49,6 @@ InOrder is_element cmp coeffs order v changes = AreChanges (is_element coeffs) v
 -- the terms are normal, in v variables
 abbrev pub AreNormal : {R E : Type 0} → (R → RingOps E) → (R → E → Bool) → R → ℕ → Vec (Term E) → Type 0
 AreNormal ops is_element coeffs v terms = All (λ t. IsTrue (is_normal_term (ops coeffs) (is_element coeffs) v t)) terms.items
-
--- f and g are the same polynomial over the coefficients
-abbrev pub SameOver : {R E : Type 0} → (R → RingOps E) → R → Polynomial E → Polynomial E → Type 0
-SameOver ops coeffs f g = IsSame (poly_ops (ops coeffs)) f g
 
 -- what is left after the changes is the sum of what was left before and of what was added, whatever that was
 abbrev pub TakesIn : {R E : Type 0} → (R → RingOps E) → R → Vec (Term E) → Vec (Term E) → Vec (Term E) → Type 0

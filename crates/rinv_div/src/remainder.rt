@@ -5,7 +5,7 @@ ghost use Rattle.rinv_ring.specs.declared.fault.RingFault.TheVariants.{Degree};
 ghost use Rattle.rinv_div.specs.Budgets.{IsWithin, KeepsOthers};
 ghost use Rattle.rinv_div.specs.Stops.{StopsWith, ReducesTo, ReducesWithin, StopsDividing, StepTooHigh};
 ghost use Rattle.rinv_div.specs.Divisors.{MadeOf};
-ghost use Rattle.rinv_div.specs.Polynomials.{IsOf};
+ghost use Rattle.rinv_poly.specs.Polynomials.{IsOf};
 
 use crate::budget::Budget;
 use crate::divisors::Divisors;
