@@ -20,8 +20,11 @@
 
 Names and polynomials may be strings, or anything whose str() is one, so elements of polynomial rings of Sage or SymPy serve
 as they are; and `field` may be a field of Sage. What rinv refuses, denies or does not finish is an exception that says what
-and where. The program is the one that the environment names in RINV, else the launcher beside this folder or the program
-that was installed with it, else the one on the PATH.
+and where. A text can ask for hours: a call takes `timeout`, in seconds, past which the program is ended, and
+subprocess.TimeoutExpired raised.
+
+The program is the one that the environment names in RINV, else the launcher beside this folder or the program that was
+installed with it, else the one on the PATH.
 """
 
 import json

@@ -98,10 +98,16 @@ def other_systems(found):
             hold(f"{system} finds what {name} claims", certificate.holds_in(system))
         for name, said in FORGED.items():
             certificate = (TOP / "examples/refused" / name).read_text(encoding="ascii")
-            script = subprocess.run([TOOLS / "recheck_in.py", system], input=certificate, capture_output=True, text=True, check=False)
-            lines = script.stderr.splitlines() if script.returncode else printed(words, script.stdout)
-            last = "all hold" if said == "all hold" else "something fails"
-            hold(f"{system} on {name}: {said}", said in lines and (script.returncode == 1 or lines[-1] == last))
+            hold(f"{system} on {name}: {said}", is_told_by(system, words, certificate, said))
+
+
+def is_told_by(system, words, certificate, said):
+    """Whether the other system, or recheck_in.py in its place, says this of a forged certificate."""
+    script = subprocess.run([TOOLS / "recheck_in.py", system], input=certificate, capture_output=True, text=True, check=False)
+    if script.returncode != 0:
+        return script.stderr.splitlines() == [said]
+    lines = printed(words, script.stdout)
+    return said in lines and lines[-1] == ("all hold" if said == "all hold" else "something fails")
 
 
 def module():
@@ -110,11 +116,13 @@ def module():
     rotations = rinv.System.read("examples/systems/rotations.rinv")
     hold("rinv.py: laws", rotations.laws())
     hold("rinv.py: generators", rotations.generators() == ["x^2 + y^2"] and rotations.generators().worth == "complete")
-    hold("rinv.py: a script", rotations.run("def r = x^2+y^2", "laws", "invariant r^2") == ["laws 1 hold", "invariant 2 yes", "done"])
+    answers = rotations.run("def r = x^2+y^2", "laws", "invariant r^2")
+    hold("rinv.py: a script", answers == ["laws 1 hold", "invariant 2 yes", "done"])
     answers = rotations.rewrite_all(["x/y", "2*(x^2+y^2)"])
     hold("rinv.py: several rewritten", isinstance(answers[0], rinv.NotInvariant) and answers[1] == "2*y1")
     on_a_line = rinv.System.read("examples/systems/rotations-on-a-line.rinv")
-    hold("rinv.py: on a section", on_a_line.generators().worth == "complete on section" and on_a_line.certify().kind == "sound")
+    hold("rinv.py: on a section", on_a_line.generators().worth == "complete on section")
+    hold("rinv.py: a certificate on a section", on_a_line.certify().kind == "sound")
     errors()
     certificate_objects(rotations)
     polynomials()
