@@ -1,5 +1,5 @@
 -- What the test of the laws answers where it does not find that all hold.
-use Rattle.std.specs.Prelude.{ℕ, ◌<◌, List, length, nat_lt, ⊤}
+use Rattle.std.specs.Prelude.{◌≡◌, ℕ, ◌<◌, List, length, nat_lt, ⊤}
 use Rattle.rinv_algebra.specs.Residue.{residue_ops}
 use Rattle.rinv_algebra.specs.Order.{grevlex}
 use Rattle.rinv_algebra.specs.Normal.{IsNormal}
@@ -60,3 +60,7 @@ abbrev pub LawStopsSo : System → (ℕ → ℕ → Type 0) → LawStop → Type
 LawStopsSo s Meets (Fault f) = IsFirstFault s (law_of f.law) f.part f.rest × IsNormal (residue_ops s.p) (λ c. nat_lt c s.p) (variables_of s (law_of f.law)) f.rest
 LawStopsSo s Meets (Degree x y) = Meets x y
 LawStopsSo s Meets NoMemory = ⊤
+
+-- one place of one law
+abbrev pub IsOnePlace : Law → ℕ → Law → ℕ → Type 0
+IsOnePlace l j m k = (l ≡ m) × (j ≡ k)

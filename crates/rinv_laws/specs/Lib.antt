@@ -5,3 +5,5 @@ pub mod Stopped
 pub mod Tested
 pub mod Proofs
 pub mod Modulo
+pub mod Lists
+pub mod Ready

@@ -1,15 +1,12 @@
 //! Polynomials in copies of the group's variables, and the kept elements of the group's basis there, ready for division.
 
-ghost use Rattle.std.specs.Prelude.{◌≡◌, ◌+◌, ◌*◌, ◌≤◌, ◌<◌, [], ◌++◌, false, map, length, get_or, nat_lt, All, IfOk};
-ghost use Rattle.rinv_algebra.specs.Ring.{IsSame};
+ghost use Rattle.std.specs.Prelude.{◌≡◌, ◌+◌, ◌*◌, ◌≤◌, ◌<◌, ◌++◌, false, length, All, IfOk};
 ghost use Rattle.rinv_algebra.specs.Residue.{residue_ops};
-ghost use Rattle.rinv_algebra.specs.Order.{grevlex};
-ghost use Rattle.rinv_algebra.specs.Polynomial.{poly_ops, is_zero, past};
-ghost use Rattle.rinv_algebra.specs.Normal.{IsNormal};
-ghost use Rattle.rinv_groebner.specs.Division.{AreSame};
-ghost use Rattle.rinv_groebner.specs.Copies.{copies as copied};
-ghost use Rattle.rinv_div.specs.Divisors.{AreDivisors};
+ghost use Rattle.rinv_algebra.specs.Polynomial.{is_zero};
 ghost use Rattle.rinv_parts.specs.Points.{ArePolynomials};
+ghost use Rattle.rinv_poly.specs.Polynomials.{IsPolynomial};
+ghost use Rattle.rinv_laws.specs.Lists.{IsPast, ArePastAt, AreCopies};
+ghost use Rattle.rinv_laws.specs.Ready.{HasDivisors};
 
 use rinv_div::{Divisors, divisors_of};
 use rinv_mono::Grevlex;
@@ -45,9 +42,9 @@ pub(crate) fn in_copy(
 ) -> Result<KPoly, NoMemory>
     requires field { from.now.coeffs ≡ ring.now.coeffs }
     requires inside { copy * from.now.vars + from.now.vars ≤ ring.now.vars }
-    requires polynomial { IsNormal (residue_ops from.now.coeffs) (λ c. nat_lt c from.now.coeffs) from.now.vars f.now }
-    ensures normal { IfOk result (λ r. IsNormal (residue_ops ring.now.coeffs) (λ c. nat_lt c ring.now.coeffs) ring.now.vars r) }
-    ensures value { IfOk result (λ r. IsSame (poly_ops (residue_ops ring.now.coeffs)) r (past (copy * from.now.vars) f.now)) }
+    requires polynomial { IsPolynomial from.now.coeffs from.now.vars f.now }
+    ensures normal { IfOk result (λ r. IsPolynomial ring.now.coeffs ring.now.vars r) }
+    ensures value { IfOk result (IsPast ring.now.coeffs (copy * from.now.vars) f.now) }
 {
     let _vars = ring.vars();
     let before = copy * from.vars();
@@ -74,7 +71,7 @@ fn chosen_in_copy(
     requires polynomials { ArePolynomials from.now.coeffs from.now.vars polys.now }
     requires places { All (λ k. k < length polys.now) places.now }
     ensures normal { IfOk result (λ r. ArePolynomials ring.now.coeffs ring.now.vars r.items) }
-    ensures value { IfOk result (λ r. AreSame (residue_ops ring.now.coeffs) r.items (map (past (copy * from.now.vars)) (map (λ k. get_or polys.now k []) places.now))) }
+    ensures value { IfOk result (ArePastAt ring.now.coeffs (copy * from.now.vars) polys.now places.now) }
 {
     let mut list = Vec::new(alloc);
     'places: for k in 0..places.len() {
@@ -99,7 +96,7 @@ fn chosen_in_copies(
     requires polynomials { ArePolynomials from.now.coeffs from.now.vars polys.now }
     requires places { All (λ k. k < length polys.now) places.now }
     ensures normal { IfOk result (λ r. ArePolynomials ring.now.coeffs ring.now.vars r.items) }
-    ensures value { IfOk result (λ r. AreSame (residue_ops ring.now.coeffs) r.items (copied copies from.now.vars (map (λ k. get_or polys.now k []) places.now))) }
+    ensures value { IfOk result (AreCopies ring.now.coeffs copies from.now.vars polys.now places.now) }
 {
     let mut list = Vec::new(alloc);
     'copies: for copy in 0..copies {
@@ -124,8 +121,8 @@ pub(crate) fn copied_basis(
     requires nonzero { All (λ h. is_zero (residue_ops from.now.coeffs) h ≡ false) polys.now }
     requires places { All (λ k. k < length polys.now) places.now }
     ensures normal { IfOk result (λ b. ArePolynomials ring.now.coeffs ring.now.vars b.polys.items) }
-    ensures value { IfOk result (λ b. AreSame (residue_ops ring.now.coeffs) b.polys.items (copied copies from.now.vars (map (λ k. get_or polys.now k []) places.now))) }
-    ensures divisors { IfOk result (λ b. AreDivisors (residue_ops ring.now.coeffs) (λ c. nat_lt c ring.now.coeffs) ring.now.vars grevlex b.polys.items b.divisors.list.items) }
+    ensures value { IfOk result (λ b. AreCopies ring.now.coeffs copies from.now.vars polys.now places.now b.polys) }
+    ensures divisors { IfOk result (λ b. HasDivisors ring.now.coeffs ring.now.vars b) }
 {
     let elements = chosen_in_copies(alloc, from, polys, places, ring, copies)?;
     let divisors = divisors_of(ring, alloc, &elements, &Grevlex)?;

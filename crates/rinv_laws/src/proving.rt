@@ -1,19 +1,18 @@
 //! The proofs of the laws: cofactors of each part over the copies of the group's ideal.
 
-ghost use Rattle.std.specs.Prelude.{◌≡◌, ◌⊎◌, ◌<◌, ◌*◌, ℕ, [], length, get_or, map, false, All, IfOk, IfErr, OnOk};
+ghost use Rattle.std.specs.Prelude.{◌≡◌, ◌<◌, ◌*◌, ℕ, [], length, get_or, map, false, All, IfOk, IfErr, OnOk};
 ghost use Rattle.rinv_algebra.specs.Residue.{residue_ops};
 ghost use Rattle.rinv_algebra.specs.Order.{grevlex};
-ghost use Rattle.rinv_defs.specs.System.{group_count};
 ghost use Rattle.rinv_defs.specs.SystemForm.{IsSystem};
 ghost use Rattle.rinv_defs.specs.Laws.{AllLawsHold, copies};
 ghost use Rattle.rinv_ring.specs.Fault.{DegreesMeet};
-ghost use Rattle.rinv_parts.specs.LawNames.{law_of, rank, variables_of};
-ghost use Rattle.rinv_parts.specs.Points.{ArePolynomials};
+ghost use Rattle.rinv_parts.specs.LawNames.{law_of, rank};
 ghost use Rattle.rinv_laws.specs.Group.{IsGroupBasis};
 ghost use Rattle.rinv_sub.specs.Refusal.{never};
 ghost use Rattle.rinv_laws.specs.Copied.{AreAllQuotients};
-ghost use Rattle.rinv_laws.specs.Faults.{TestMeets, LawStopsSo};
-ghost use Rattle.rinv_laws.specs.Proofs.{BasisMeets, proved_laws, chosen, AreMadeOf, KeepCofactors, MakingMeets, ProvesLaw, ProofsMeet};
+ghost use Rattle.rinv_laws.specs.Proofs.{BasisMeets, proved_laws, ProofsMeet};
+ghost use Rattle.rinv_laws.specs.Lists.{AreInGroup, AreInLaw, AreSoMany, AreGroupCofactors, AreLawCofactors, MakingFaults, AreLawProofs};
+ghost use Rattle.rinv_laws.specs.Ready.{StopsCheck};
 
 use crate::cofactors::{cofactors_in_copies, lists_in_copies};
 use crate::group::GroupBasis;
@@ -42,8 +41,8 @@ pub fn check_laws(alloc: Global, system: &System, group: &GroupBasis) -> Result<
     requires group { IsGroupBasis system.now.system group.now.basis group.now.reduced.items }
     ensures hold { OnOk result (AllLawsHold system.now.system) }
     ensures laws { IfOk result (λ p. map (λ e. law_of e.0) p.cofactors.items ≡ proved_laws) }
-    ensures proofs { IfOk result (λ p. All (λ e. ProvesLaw system.now.system group.now.basis (law_of e.0) (map (λ us. us.items) e.1.items)) p.cofactors.items) }
-    ensures stop { IfErr result (LawStopsSo system.now.system (λ x y. TestMeets system.now.system group.now.basis x y ⊎ ProofsMeet system.now.system group.now.basis x y)) }
+    ensures proofs { IfOk result (λ p. AreLawProofs system.now.system group.now.basis p.cofactors.items) }
+    ensures stop { IfErr result (StopsCheck system.now.system group.now.basis) }
 {
     let quotients = test_laws(alloc, system, group)?;
     match proofs_of(alloc, system, group, &quotients) {
@@ -65,7 +64,7 @@ fn proofs_of(
     requires hold { AllLawsHold system.now.system }
     requires quotients { AreAllQuotients system.now.system group.now.basis quotients.now }
     ensures laws { IfOk result (λ p. map (λ e. law_of e.0) p.items ≡ proved_laws) }
-    ensures proofs { IfOk result (λ p. All (λ e. ProvesLaw system.now.system group.now.basis (law_of e.0) (map (λ us. us.items) e.1.items)) p.items) }
+    ensures proofs { IfOk result (λ p. AreLawProofs system.now.system group.now.basis p.items) }
     ensures degree { IfErr result (DegreesMeet (ProofsMeet system.now.system group.now.basis)) }
 {
     let (lists, places) = kept_cofactors(alloc, system, group)?;
@@ -111,10 +110,10 @@ fn kept_cofactors(
 ) -> Result<(Vec<Vec<KPoly>>, Vec<usize>), RingFault>
     requires system { IsSystem system.now.system }
     requires group { IsGroupBasis system.now.system group.now.basis group.now.reduced.items }
-    ensures lengths { IfOk result (λ r. All (λ us. length us.items ≡ length system.now.system.ideal) r.0.items) }
-    ensures normal { IfOk result (λ r. All (λ us. ArePolynomials system.now.system.p (group_count system.now.system) us.items) r.0.items) }
+    ensures lengths { IfOk result (λ r. AreSoMany (length system.now.system.ideal) r.0.items) }
+    ensures normal { IfOk result (λ r. AreInGroup system.now.system r.0.items) }
     ensures inside { IfOk result (λ r. All (λ k. k < length r.0.items) r.1.items) }
-    ensures cofactors { IfOk result (λ r. KeepCofactors system.now.system group.now.basis (chosen (map (λ us. us.items) r.0.items) r.1.items)) }
+    ensures cofactors { IfOk result (AreGroupCofactors system.now.system group.now.basis) }
     ensures degree { IfErr result (DegreesMeet (BasisMeets system.now.system group.now.basis)) }
 {
     let ring = PolyRing::new(system.field, system.group.len());
@@ -134,13 +133,13 @@ fn cofactors_of_law(
     quotients: &[Vec<KPoly>],
 ) -> Result<Vec<Vec<KPoly>>, RingFault>
     requires system { IsSystem system.now.system }
-    requires lists { All (λ us. ArePolynomials system.now.system.p (group_count system.now.system) us.items) lists.now }
-    requires lengths { All (λ us. length us.items ≡ length system.now.system.ideal) lists.now }
+    requires lists { AreInGroup system.now.system lists.now }
+    requires lengths { AreSoMany (length system.now.system.ideal) lists.now }
     requires places { All (λ k. k < length lists.now) places.now }
-    requires many { All (λ qs. length qs.items ≡ copies (law_of law) * length places.now) quotients.now }
-    requires quotients { All (λ qs. ArePolynomials system.now.system.p (variables_of system.now.system (law_of law)) qs.items) quotients.now }
-    ensures cofactors { IfOk result (λ r. AreMadeOf system.now.system (law_of law) (chosen (map (λ us. us.items) lists.now) places.now) (map (λ qs. qs.items) quotients.now) (map (λ us. us.items) r.items)) }
-    ensures degree { IfErr result (DegreesMeet (MakingMeets system.now.system (law_of law) (chosen (map (λ us. us.items) lists.now) places.now) (map (λ qs. qs.items) quotients.now))) }
+    requires many { AreSoMany (copies (law_of law) * length places.now) quotients.now }
+    requires quotients { AreInLaw system.now.system law quotients.now }
+    ensures cofactors { IfOk result (AreLawCofactors system.now.system law lists.now places.now quotients.now) }
+    ensures degree { IfErr result (MakingFaults system.now.system law lists.now places.now quotients.now) }
 {
     let from = PolyRing::new(system.field, system.group.len());
     let ring = PolyRing::new(system.field, variables_of(system, law));

@@ -1,19 +1,17 @@
 //! A quick test of the laws: both sides of each part are formed modulo the ideal of the points of which the law speaks, and no long
 //! polynomial arises. It finds that laws hold, or finds nothing.
 
-ghost use Rattle.std.specs.Prelude.{◌≡◌, ◌<◌, ◌+◌, [], true, map, length, get_or, nat_lt, All, IfOk};
-ghost use Rattle.rinv_algebra.specs.Residue.{residue_ops};
-ghost use Rattle.rinv_algebra.specs.Order.{grevlex};
+ghost use Rattle.std.specs.Prelude.{◌≡◌, ◌<◌, length, All, IfOk};
 ghost use Rattle.rinv_groebner.specs.Reduced.{kept};
-ghost use Rattle.rinv_div.specs.Divisors.{AreDivisors};
 ghost use Rattle.rinv_defs.specs.SystemForm.{IsSystem};
 ghost use Rattle.rinv_defs.specs.Laws.{AllLawsHold, LawHolds};
 ghost use Rattle.rinv_parts.specs.LawNames.{law_of};
 ghost use Rattle.rinv_parts.specs.Parts.{ArePartsOf};
-ghost use Rattle.rinv_parts.specs.Points.{AreCoordinates, ArePolynomials, IsPoint, part_number, vanish, agree, give, give_both};
+ghost use Rattle.rinv_parts.specs.Points.{AreCoordinates, ArePolynomials, IsPoint, vanish, agree, give, give_both};
 ghost use Rattle.rinv_laws.specs.Group.{IsGroupBasis};
-ghost use Rattle.rinv_laws.specs.Modulo.{AreInIdeal, AreValues, DifferInIdeal, PartsInIdeal, stored_points};
-ghost use Rattle.rinv_laws.specs.Tested.{IsCopiedBasis};
+ghost use Rattle.rinv_poly.specs.Results.{IfHolds};
+ghost use Rattle.rinv_laws.specs.Lists.{AreGroupPlaces};
+ghost use Rattle.rinv_laws.specs.Ready.{HasDivisors, IsBasisFor, HoldValues, AllVanish, AllAgree, HoldAt, HoldAtBoth, HoldAtStored};
 
 use crate::copied::{CopiedBasis, copied_basis};
 use crate::group::GroupBasis;
@@ -38,8 +36,8 @@ fn values_at(
 ) -> Result<Vec<KPoly>, RingFault>
     requires polynomials { ArePolynomials ring.now.coeffs vars fs.now }
     requires point { IsPoint ring.now.coeffs ring.now.vars vars point.now }
-    requires divisors { AreDivisors (residue_ops ring.now.coeffs) (λ c. nat_lt c ring.now.coeffs) ring.now.vars grevlex basis.now.polys.items basis.now.divisors.list.items }
-    ensures { IfOk result (λ r. AreValues ring.now.coeffs ring.now.vars basis.now.polys.items point.now fs.now r.items) }
+    requires divisors { HasDivisors ring.now.coeffs ring.now.vars basis.now }
+    ensures { IfOk result (HoldValues ring.now.coeffs ring.now.vars basis.now point.now fs.now) }
 {
     let greatest = greatest_exponents(alloc, fs, vars)?;
     let tables = tables_modulo(ring, alloc, point, &greatest, &basis.polys, &basis.divisors)?;
@@ -67,8 +65,8 @@ fn are_zero(
     basis: &CopiedBasis,
 ) -> Result<bool, RingFault>
     requires polynomials { ArePolynomials ring.now.coeffs ring.now.vars fs.now }
-    requires divisors { AreDivisors (residue_ops ring.now.coeffs) (λ c. nat_lt c ring.now.coeffs) ring.now.vars grevlex basis.now.polys.items basis.now.divisors.list.items }
-    ensures { IfOk result (λ b. b ≡ true → AreInIdeal ring.now.coeffs basis.now.polys.items fs.now) }
+    requires divisors { HasDivisors ring.now.coeffs ring.now.vars basis.now }
+    ensures { IfHolds result (AllVanish ring.now.coeffs basis.now fs.now) }
 {
     'polynomials: for k in 0..fs.len() {
         let rest = reduced(ring, alloc, &fs[k], &basis.polys, &basis.divisors)?;
@@ -90,8 +88,8 @@ fn are_same(
     requires many { length left.now ≡ length right.now }
     requires left { ArePolynomials ring.now.coeffs ring.now.vars left.now }
     requires right { ArePolynomials ring.now.coeffs ring.now.vars right.now }
-    requires divisors { AreDivisors (residue_ops ring.now.coeffs) (λ c. nat_lt c ring.now.coeffs) ring.now.vars grevlex basis.now.polys.items basis.now.divisors.list.items }
-    ensures { IfOk result (λ b. b ≡ true → DifferInIdeal ring.now.coeffs basis.now.polys.items left.now right.now) }
+    requires divisors { HasDivisors ring.now.coeffs ring.now.vars basis.now }
+    ensures { IfHolds result (AllAgree ring.now.coeffs basis.now left.now right.now) }
 {
     'places: for k in 0..left.len() {
         let difference = ring.sub(alloc, &left[k], &right[k])?;
@@ -114,8 +112,8 @@ fn vanish_at(
 ) -> Result<bool, RingFault>
     requires polynomials { ArePolynomials ring.now.coeffs vars fs.now }
     requires point { IsPoint ring.now.coeffs ring.now.vars vars point.now }
-    requires divisors { AreDivisors (residue_ops ring.now.coeffs) (λ c. nat_lt c ring.now.coeffs) ring.now.vars grevlex basis.now.polys.items basis.now.divisors.list.items }
-    ensures { IfOk result (λ b. b ≡ true → PartsInIdeal ring.now.coeffs basis.now.polys.items fs.now (vanish point.now) (length fs.now)) }
+    requires divisors { HasDivisors ring.now.coeffs ring.now.vars basis.now }
+    ensures { IfHolds result (HoldAt ring.now.coeffs basis.now fs.now (vanish point.now)) }
 {
     let values = values_at(alloc, ring, vars, fs, point, basis)?;
     let vanish = are_zero(alloc, ring, &values, basis)?;
@@ -135,8 +133,8 @@ fn agree_at(
     requires polynomials { ArePolynomials ring.now.coeffs vars fs.now }
     requires first { IsPoint ring.now.coeffs ring.now.vars vars first.now }
     requires second { IsPoint ring.now.coeffs ring.now.vars vars second.now }
-    requires divisors { AreDivisors (residue_ops ring.now.coeffs) (λ c. nat_lt c ring.now.coeffs) ring.now.vars grevlex basis.now.polys.items basis.now.divisors.list.items }
-    ensures { IfOk result (λ b. b ≡ true → PartsInIdeal ring.now.coeffs basis.now.polys.items fs.now (agree first.now second.now) (length fs.now)) }
+    requires divisors { HasDivisors ring.now.coeffs ring.now.vars basis.now }
+    ensures { IfHolds result (HoldAt ring.now.coeffs basis.now fs.now (agree first.now second.now)) }
 {
     let left = values_at(alloc, ring, vars, fs, first, basis)?;
     let right = values_at(alloc, ring, vars, fs, second, basis)?;
@@ -157,8 +155,8 @@ fn give_at(
     requires polynomials { ArePolynomials ring.now.coeffs vars fs.now }
     requires point { IsPoint ring.now.coeffs ring.now.vars vars point.now }
     requires wanted { IsPoint ring.now.coeffs ring.now.vars (length fs.now) wanted.now }
-    requires divisors { AreDivisors (residue_ops ring.now.coeffs) (λ c. nat_lt c ring.now.coeffs) ring.now.vars grevlex basis.now.polys.items basis.now.divisors.list.items }
-    ensures { IfOk result (λ b. b ≡ true → PartsInIdeal ring.now.coeffs basis.now.polys.items fs.now (give point.now wanted.now) (length fs.now)) }
+    requires divisors { HasDivisors ring.now.coeffs ring.now.vars basis.now }
+    ensures { IfHolds result (HoldAt ring.now.coeffs basis.now fs.now (give point.now wanted.now)) }
 {
     let values = values_at(alloc, ring, vars, fs, point, basis)?;
     let give = are_same(alloc, ring, &values, wanted, basis)?;
@@ -180,8 +178,8 @@ fn give_at_both(
     requires first { IsPoint ring.now.coeffs ring.now.vars vars first.now }
     requires second { IsPoint ring.now.coeffs ring.now.vars vars second.now }
     requires wanted { IsPoint ring.now.coeffs ring.now.vars (length fs.now) wanted.now }
-    requires divisors { AreDivisors (residue_ops ring.now.coeffs) (λ c. nat_lt c ring.now.coeffs) ring.now.vars grevlex basis.now.polys.items basis.now.divisors.list.items }
-    ensures { IfOk result (λ b. b ≡ true → PartsInIdeal ring.now.coeffs basis.now.polys.items fs.now (give_both first.now second.now wanted.now) (length fs.now + length fs.now)) }
+    requires divisors { HasDivisors ring.now.coeffs ring.now.vars basis.now }
+    ensures { IfHolds result (HoldAtBoth ring.now.coeffs basis.now fs.now (give_both first.now second.now wanted.now)) }
 {
     let left = give_at(alloc, ring, vars, fs, first, wanted, basis)?;
     if !left {
@@ -202,8 +200,8 @@ fn holds_at(
 ) -> Result<bool, RingFault>
     requires polynomials { ArePolynomials ring.now.coeffs vars fs.now }
     requires points { AreCoordinates ring.now.coeffs ring.now.vars vars (length fs.now) points.now }
-    requires divisors { AreDivisors (residue_ops ring.now.coeffs) (λ c. nat_lt c ring.now.coeffs) ring.now.vars grevlex basis.now.polys.items basis.now.divisors.list.items }
-    ensures { IfOk result (λ b. b ≡ true → PartsInIdeal ring.now.coeffs basis.now.polys.items fs.now (stored_points points.now) (part_number (length fs.now) points.now)) }
+    requires divisors { HasDivisors ring.now.coeffs ring.now.vars basis.now }
+    ensures { IfHolds result (HoldAtStored ring.now.coeffs basis.now fs.now points.now) }
 {
     match points {
         LawPoints::Vanish(point) => vanish_at(alloc, ring, vars, fs, point, basis),
@@ -225,8 +223,8 @@ fn parts_hold(
 ) -> Result<bool, NoMemory>
     requires group { IsGroupBasis system.now.system group.now.basis group.now.reduced.items }
     requires parts { ArePartsOf system.now.system own.now }
-    requires basis { IsCopiedBasis system.now.system group.now.basis (law_of own.now.law) basis.now }
-    ensures { IfOk result (λ b. b ≡ true → LawHolds system.now.system (law_of own.now.law)) }
+    requires basis { IsBasisFor system.now.system group.now.basis own.now.law basis.now }
+    ensures { IfHolds result (LawHolds system.now.system (law_of own.now.law)) }
 {
     let fs = law_polynomials(system, own.law);
     let vars = polynomial_variables(system, own.law);
@@ -248,8 +246,8 @@ fn law_holds(
     requires system { IsSystem system.now.system }
     requires group { IsGroupBasis system.now.system group.now.basis group.now.reduced.items }
     requires inside { All (λ k. k < length group.now.basis.polys) places.now }
-    requires kept { map (λ k. get_or group.now.basis.polys k []) places.now ≡ kept (residue_ops system.now.system.p) grevlex group.now.basis.polys }
-    ensures { IfOk result (λ b. b ≡ true → LawHolds system.now.system (law_of law)) }
+    requires kept { AreGroupPlaces system.now.system group.now.basis places.now }
+    ensures { IfHolds result (LawHolds system.now.system (law_of law)) }
 {
     let from = PolyRing::new(system.field, system.group.len());
     let own = parts_of(alloc, system, law)?;
@@ -263,7 +261,7 @@ fn law_holds(
 pub fn laws_hold(alloc: Global, system: &System, group: &GroupBasis) -> Result<bool, NoMemory>
     requires system { IsSystem system.now.system }
     requires group { IsGroupBasis system.now.system group.now.basis group.now.reduced.items }
-    ensures { IfOk result (λ b. b ≡ true → AllLawsHold system.now.system) }
+    ensures { IfHolds result (AllLawsHold system.now.system) }
 {
     let ring = PolyRing::new(system.field, system.group.len());
     let places = kept_places(&ring, alloc, &group.basis.polys, &Grevlex)?;

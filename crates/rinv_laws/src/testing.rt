@@ -1,20 +1,19 @@
 //! The test of the laws, one after the other, part by part.
 
-ghost use Rattle.std.specs.Prelude.{◌≡◌, ◌<◌, [], map, length, get_or, nat_lt, All, IfOk, IfErr, OnOk};
-ghost use Rattle.rinv_algebra.specs.Residue.{residue_ops};
-ghost use Rattle.rinv_algebra.specs.Order.{grevlex};
-ghost use Rattle.rinv_algebra.specs.Normal.{IsNormal};
+ghost use Rattle.std.specs.Prelude.{◌<◌, length, All, IfOk, IfErr, OnOk};
 ghost use Rattle.rinv_groebner.specs.Reduced.{kept};
-ghost use Rattle.rinv_div.specs.Divisors.{AreDivisors};
 ghost use Rattle.rinv_defs.specs.SystemForm.{IsSystem};
 ghost use Rattle.rinv_defs.specs.Laws.{AllLawsHold, LawHolds, parts};
-ghost use Rattle.rinv_parts.specs.LawNames.{law_of, variables_of};
+ghost use Rattle.rinv_parts.specs.LawNames.{law_of};
 ghost use Rattle.rinv_parts.specs.Parts.{ArePartsOf};
 ghost use Rattle.rinv_parts.specs.Points.{ArePolynomials};
 ghost use Rattle.rinv_laws.specs.Group.{IsGroupBasis};
-ghost use Rattle.rinv_laws.specs.Copied.{AreQuotients, AreAllQuotients, IsZeroPart};
-ghost use Rattle.rinv_laws.specs.Faults.{TestMeets, HoldBefore, LawStopsSo, PartHolds};
-ghost use Rattle.rinv_laws.specs.Tested.{DivisionStops, FaultIn, IsCopiedBasis, LeavesNothing, PartStops};
+ghost use Rattle.rinv_laws.specs.Copied.{AreAllQuotients};
+ghost use Rattle.rinv_laws.specs.Faults.{HoldBefore, PartHolds};
+ghost use Rattle.rinv_laws.specs.Tested.{FaultIn};
+ghost use Rattle.rinv_poly.specs.Polynomials.{IsPolynomial};
+ghost use Rattle.rinv_laws.specs.Lists.{IsInLaw, AreGroupPlaces, LeavesZero, AreLawQuotients};
+ghost use Rattle.rinv_laws.specs.Ready.{HasDivisors, IsBasisFor, DividesWholly, StopsDivision, StopsPart, StopsTest};
 
 use crate::copied::{CopiedBasis, copied_basis};
 use crate::group::GroupBasis;
@@ -66,12 +65,12 @@ fn divide_part(
     part: &KPoly,
     basis: &CopiedBasis,
 ) -> Result<Vec<KPoly>, LawStop>
-    requires part { IsNormal (residue_ops ring.now.coeffs) (λ c. nat_lt c ring.now.coeffs) ring.now.vars part.now }
-    requires divisors { AreDivisors (residue_ops ring.now.coeffs) (λ c. nat_lt c ring.now.coeffs) ring.now.vars grevlex basis.now.polys.items basis.now.divisors.list.items }
+    requires part { IsPolynomial ring.now.coeffs ring.now.vars part.now }
+    requires divisors { HasDivisors ring.now.coeffs ring.now.vars basis.now }
     ensures normal { IfOk result (λ qs. ArePolynomials ring.now.coeffs ring.now.vars qs.items) }
-    ensures nothing { IfOk result (λ qs. LeavesNothing ring.now.coeffs basis.now.polys.items part.now qs.items) }
+    ensures nothing { IfOk result (DividesWholly ring.now.coeffs basis.now part.now) }
     ensures fault { IfErr result (FaultIn ring.now.coeffs ring.now.vars) }
-    ensures stop { IfErr result (DivisionStops ring.now.coeffs basis.now.polys.items (law_of law) place part.now) }
+    ensures stop { IfErr result (StopsDivision ring.now.coeffs basis.now law place part.now) }
 {
     let division = divide_wholly(ring, alloc, part, &basis.polys, &basis.divisors, &Grevlex)?;
     let Division { quotients, rest } = division;
@@ -97,12 +96,12 @@ fn test_part(
 ) -> Result<Vec<KPoly>, LawStop>
     requires group { IsGroupBasis system.now.system group.now.basis group.now.reduced.items }
     requires parts { ArePartsOf system.now.system own.now }
-    requires basis { IsCopiedBasis system.now.system group.now.basis (law_of own.now.law) basis.now }
+    requires basis { IsBasisFor system.now.system group.now.basis own.now.law basis.now }
     requires inside { place < length (parts system.now.system (law_of own.now.law)) }
-    ensures normal { IfOk result (λ qs. ArePolynomials system.now.system.p (variables_of system.now.system (law_of own.now.law)) qs.items) }
+    ensures normal { IfOk result (IsInLaw system.now.system own.now.law) }
     ensures holds { OnOk result (PartHolds system.now.system (law_of own.now.law) place) }
-    ensures zero { IfOk result (λ qs. IsZeroPart system.now.system group.now.basis (law_of own.now.law) place qs.items) }
-    ensures stop { IfErr result (PartStops system.now.system group.now.basis (law_of own.now.law) place) }
+    ensures zero { IfOk result (LeavesZero system.now.system group.now.basis own.now.law place) }
+    ensures stop { IfErr result (StopsPart system.now.system group.now.basis own.now.law place) }
 {
     let part = part_at(alloc, system, own, place)?;
     divide_part(alloc, &own.ring, own.law, place, &part, basis)
@@ -118,11 +117,11 @@ fn test_parts(
 ) -> Result<Vec<Vec<KPoly>>, LawStop>
     requires group { IsGroupBasis system.now.system group.now.basis group.now.reduced.items }
     requires parts { ArePartsOf system.now.system own.now }
-    requires basis { IsCopiedBasis system.now.system group.now.basis (law_of own.now.law) basis.now }
+    requires basis { IsBasisFor system.now.system group.now.basis own.now.law basis.now }
     requires before { HoldBefore system.now.system (law_of own.now.law) }
     ensures holds { OnOk result (LawHolds system.now.system (law_of own.now.law)) }
-    ensures quotients { IfOk result (λ lists. AreQuotients system.now.system group.now.basis (law_of own.now.law) (map (λ qs. qs.items) lists.items)) }
-    ensures stop { IfErr result (LawStopsSo system.now.system (TestMeets system.now.system group.now.basis)) }
+    ensures quotients { IfOk result (AreLawQuotients system.now.system group.now.basis own.now.law) }
+    ensures stop { IfErr result (StopsTest system.now.system group.now.basis) }
 {
     let mut lists = Vec::new(alloc);
     'parts: for place in 0..part_count(system, own.law) {
@@ -143,11 +142,11 @@ fn test_law(
     requires system { IsSystem system.now.system }
     requires group { IsGroupBasis system.now.system group.now.basis group.now.reduced.items }
     requires inside { All (λ k. k < length group.now.basis.polys) places.now }
-    requires kept { map (λ k. get_or group.now.basis.polys k []) places.now ≡ kept (residue_ops system.now.system.p) grevlex group.now.basis.polys }
+    requires kept { AreGroupPlaces system.now.system group.now.basis places.now }
     requires before { HoldBefore system.now.system (law_of law) }
     ensures holds { OnOk result (LawHolds system.now.system (law_of law)) }
-    ensures quotients { IfOk result (λ lists. AreQuotients system.now.system group.now.basis (law_of law) (map (λ qs. qs.items) lists.items)) }
-    ensures stop { IfErr result (LawStopsSo system.now.system (TestMeets system.now.system group.now.basis)) }
+    ensures quotients { IfOk result (AreLawQuotients system.now.system group.now.basis law) }
+    ensures stop { IfErr result (StopsTest system.now.system group.now.basis) }
 {
     let from = PolyRing::new(system.field, system.group.len());
     let own = parts_of(alloc, system, law)?;
@@ -168,7 +167,7 @@ pub fn test_laws(
     requires group { IsGroupBasis system.now.system group.now.basis group.now.reduced.items }
     ensures hold { OnOk result (AllLawsHold system.now.system) }
     ensures quotients { IfOk result (AreAllQuotients system.now.system group.now.basis) }
-    ensures stop { IfErr result (LawStopsSo system.now.system (TestMeets system.now.system group.now.basis)) }
+    ensures stop { IfErr result (StopsTest system.now.system group.now.basis) }
 {
     let ring = PolyRing::new(system.field, system.group.len());
     let places = kept_places(&ring, alloc, &group.basis.polys, &Grevlex)?;

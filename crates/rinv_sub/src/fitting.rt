@@ -1,14 +1,11 @@
 //! Over a field the degree of a product is the sum of the degrees: whether products fit is known before any is formed.
 
-ghost use Rattle.std.specs.Prelude.{◌≡◌, ◌⊎◌, ◌<◌, ◌≤◌, ◌+◌, ◌*◌, ℕ, false, true, List, length, All, IfOk, IfErr, OnOk};
-ghost use Rattle.rinv_algebra.specs.Ring.{IsSame};
+ghost use Rattle.std.specs.Prelude.{◌≡◌, ◌⊎◌, ◌≤◌, ◌+◌, ◌*◌, false, true, List, length, IfOk, IfErr, OnOk};
 ghost use Rattle.rinv_algebra.specs.Monomial.{max_degree};
-ghost use Rattle.rinv_algebra.specs.Polynomial.{poly_ops, constant, is_zero};
-ghost use Rattle.rinv_algebra.specs.Normal.{IsNormal};
-ghost use Rattle.rinv_algebra.specs.Value.{factors, substitute};
+ghost use Rattle.rinv_algebra.specs.Polynomial.{is_zero};
 ghost use Rattle.rinv_algebra.specs.Fits.{substitution_fits};
-ghost use Rattle.rinv_ring.specs.Fault.{DegreesMeet};
-ghost use Rattle.rinv_sub.specs.Refusal.{ProductsMeet, SubstitutionMeets};
+ghost use Rattle.rinv_poly.specs.Polynomials.{IsOf, AreOf};
+ghost use Rattle.rinv_sub.specs.Values.{IsSubstituted, SubstitutionFaults, MonomialFaults, DegreeFaults};
 
 use crate::bounds::greatest_degree;
 use crate::substitution::substitute;
@@ -27,13 +24,13 @@ pub fn substitute_over_field<R: Field>(
     images: &[Poly<R>],
 ) -> Result<Poly<R>, RingFault>
     requires coeffs { from.now.coeffs ≡ to.now.coeffs }
-    requires polynomial { IsNormal (R.ops from.now.coeffs) (R.is_element from.now.coeffs) from.now.vars f.now }
+    requires polynomial { IsOf R.ops R.is_element from.now f.now }
     requires many { length images.now ≡ from.now.vars }
-    requires images { All (IsNormal (R.ops to.now.coeffs) (R.is_element to.now.coeffs) to.now.vars) images.now }
-    ensures element { IfOk result (λ r. IsNormal (R.ops to.now.coeffs) (R.is_element to.now.coeffs) to.now.vars r) }
-    ensures value { IfOk result (λ r. IsSame (poly_ops (R.ops to.now.coeffs)) r (substitute (R.ops to.now.coeffs) images.now f.now)) }
+    requires images { AreOf R.ops R.is_element to.now images.now }
+    ensures element { IfOk result (λ r. IsOf R.ops R.is_element to.now r) }
+    ensures value { IfOk result (IsSubstituted R.ops to.now images.now f.now) }
     ensures fits { OnOk result (substitution_fits (R.ops to.now.coeffs) images.now f.now ≡ true) }
-    ensures degree { IfErr result (DegreesMeet (SubstitutionMeets (R.ops to.now.coeffs) (R.is_element to.now.coeffs) (R.too_high to.now.coeffs) to.now.vars images.now f.now)) }
+    ensures degree { IfErr result (SubstitutionFaults R.ops R.is_element R.too_high to.now images.now f.now) }
 {
     check_terms(from, f, to, images)?;
     let value = substitute(from, alloc, f, to, images)?;
@@ -48,10 +45,10 @@ fn check_terms<R: Field>(
     images: &[Poly<R>],
 ) -> Result<(), RingFault>
     requires coeffs { from.now.coeffs ≡ to.now.coeffs }
-    requires polynomial { IsNormal (R.ops from.now.coeffs) (R.is_element from.now.coeffs) from.now.vars f.now }
+    requires polynomial { IsOf R.ops R.is_element from.now f.now }
     requires many { length images.now ≡ from.now.vars }
-    requires images { All (IsNormal (R.ops to.now.coeffs) (R.is_element to.now.coeffs) to.now.vars) images.now }
-    ensures { IfErr result (DegreesMeet (SubstitutionMeets (R.ops to.now.coeffs) (R.is_element to.now.coeffs) (R.too_high to.now.coeffs) to.now.vars images.now f.now)) }
+    requires images { AreOf R.ops R.is_element to.now images.now }
+    ensures { IfErr result (SubstitutionFaults R.ops R.is_element R.too_high to.now images.now f.now) }
 {
     'terms: for k in 0..from.len(f) {
         check_term(to, from.mono(f, k), images)?;
@@ -66,8 +63,8 @@ fn check_term<R: Field>(
     images: &[Poly<R>],
 ) -> Result<(), RingFault>
     requires many { length images.now ≡ length mono.now }
-    requires images { All (IsNormal (R.ops ring.now.coeffs) (R.is_element ring.now.coeffs) ring.now.vars) images.now }
-    ensures { IfErr result (DegreesMeet (λ x y. (c : R.Elem) → (R.ops ring.now.coeffs).same c (R.ops ring.now.coeffs).zero ≡ false → ProductsMeet (R.ops ring.now.coeffs) (R.is_element ring.now.coeffs) (R.too_high ring.now.coeffs) ring.now.vars (constant (R.ops ring.now.coeffs) c) (factors images.now mono.now) x y)) }
+    requires images { AreOf R.ops R.is_element ring.now images.now }
+    ensures { IfErr result (MonomialFaults R.ops R.is_element R.too_high ring.now images.now mono.now) }
 {
     let _limit = mono.degree();
     let mut degree = 0;
@@ -84,7 +81,7 @@ fn check_term<R: Field>(
 
 // Whether the power of the polynomial is zero.
 fn is_zero_power<R: Ring>(ring: &PolyRing<R>, f: &Poly<R>, exponent: u32) -> bool
-    requires { IsNormal (R.ops ring.now.coeffs) (R.is_element ring.now.coeffs) ring.now.vars f.now }
+    requires { IsOf R.ops R.is_element ring.now f.now }
     ensures { result ≡ false → (exponent ≡ 0) ⊎ (is_zero (R.ops ring.now.coeffs) f.now ≡ false) }
 {
     exponent > 0 && ring.is_zero(f)
@@ -97,7 +94,7 @@ fn degree_with(degree: u32, exponent: u32, each: u32) -> Result<u32, RingFault>
     requires each { each ≤ max_degree }
     ensures value { IfOk result (λ n. n ≡ degree + exponent * each) }
     ensures low { IfOk result (λ n. n ≤ max_degree) }
-    ensures meets { IfErr result (DegreesMeet (λ x y. (y ≡ each) × (j : ℕ) × (j < exponent) × (x ≡ degree + j * each) × (max_degree < x + each))) }
+    ensures meets { IfErr result (DegreeFaults degree exponent each) }
 {
     if exponent * each <= 10000 - degree {
         return Ok(degree + exponent * each);

@@ -2,10 +2,8 @@
 //! those of powers do, few terms are left after the first sums.
 
 ghost use Rattle.std.specs.Prelude.{◌≡◌, ℕ, List, All, IsTrue, IfOk, length, ◌∷◌, []};
-ghost use Rattle.rinv_algebra.specs.Ring.{IsSame};
-ghost use Rattle.rinv_algebra.specs.Polynomial.{poly_ops, product};
-ghost use Rattle.rinv_algebra.specs.Normal.{IsNormal};
 ghost use Rattle.rinv_poly.specs.Terms.{IsTerm};
+ghost use Rattle.rinv_poly.specs.Polynomials.{IsOf, IsProductIn};
 
 use rinv_mono::Mono;
 use rinv_poly::{Poly, PolyRing};
@@ -19,10 +17,10 @@ pub(crate) fn product_by_rows<R: Ring>(
     f: &Poly<R>,
     terms: &[(Mono, R::Elem)],
 ) -> Result<Poly<R>, RingFault>
-    requires polynomial { IsNormal (R.ops ring.now.coeffs) (R.is_element ring.now.coeffs) ring.now.vars f.now }
+    requires polynomial { IsOf R.ops R.is_element ring.now f.now }
     requires terms { All (IsTerm (R.is_element ring.now.coeffs) ring.now.vars) terms.now }
-    ensures element { IfOk result (λ r. IsNormal (R.ops ring.now.coeffs) (R.is_element ring.now.coeffs) ring.now.vars r) }
-    ensures value { IfOk result (λ r. IsSame (poly_ops (R.ops ring.now.coeffs)) r (product (R.ops ring.now.coeffs) f.now terms.now)) }
+    ensures element { IfOk result (λ r. IsOf R.ops R.is_element ring.now r) }
+    ensures value { IfOk result (λ r. IsProductIn R.ops ring.now r f.now terms.now) }
 {
     if terms.is_empty() {
         let zero = ring.zero(alloc)?;
@@ -48,11 +46,11 @@ fn row<R: Ring>(
     mono: &Mono,
     c: &R::Elem,
 ) -> Result<Poly<R>, RingFault>
-    requires polynomial { IsNormal (R.ops ring.now.coeffs) (R.is_element ring.now.coeffs) ring.now.vars f.now }
+    requires polynomial { IsOf R.ops R.is_element ring.now f.now }
     requires vars { length mono.now ≡ ring.now.vars }
     requires element { IsTrue (R.is_element ring.now.coeffs c.now) }
-    ensures element { IfOk result (λ r. IsNormal (R.ops ring.now.coeffs) (R.is_element ring.now.coeffs) ring.now.vars r) }
-    ensures value { IfOk result (λ r. IsSame (poly_ops (R.ops ring.now.coeffs)) r (product (R.ops ring.now.coeffs) f.now ((mono.now, c.now) ∷ []))) }
+    ensures element { IfOk result (λ r. IsOf R.ops R.is_element ring.now r) }
+    ensures value { IfOk result (λ r. IsProductIn R.ops ring.now r f.now ((mono.now, c.now) ∷ [])) }
 {
     let copy = ring.coeffs().copy(alloc, c)?;
     let mut terms = Vec::new(alloc);

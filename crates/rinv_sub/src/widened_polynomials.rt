@@ -1,10 +1,8 @@
 //! Polynomials in further variables, which they do not have.
 
 ghost use Rattle.std.specs.Prelude.{◌≡◌, ◌<◌, ◌≤◌, ◌+◌, ◌^◌, ◌++◌, ℕ, List, length, replicate, All, IsTrue, IfOk};
-ghost use Rattle.rinv_algebra.specs.Ring.{IsSame};
 ghost use Rattle.rinv_algebra.specs.Monomial.{total_degree, max_degree};
-ghost use Rattle.rinv_algebra.specs.Polynomial.{poly_ops};
-ghost use Rattle.rinv_algebra.specs.Normal.{IsNormal};
+ghost use Rattle.rinv_poly.specs.Polynomials.{IsOf, SameIn};
 
 use rinv_mono::Mono;
 use rinv_poly::{Poly, PolyRing};
@@ -20,9 +18,9 @@ pub fn widened<R: Ring>(
 ) -> Result<Poly<R>, NoMemory>
     requires coeffs { from.now.coeffs ≡ to.now.coeffs }
     requires more { from.now.vars ≤ to.now.vars }
-    requires polynomial { IsNormal (R.ops from.now.coeffs) (R.is_element from.now.coeffs) from.now.vars f.now }
-    ensures element { IfOk result (λ r. IsNormal (R.ops to.now.coeffs) (R.is_element to.now.coeffs) to.now.vars r) }
-    ensures value { IfOk result (λ r. IsSame (poly_ops (R.ops to.now.coeffs)) r f.now) }
+    requires polynomial { IsOf R.ops R.is_element from.now f.now }
+    ensures element { IfOk result (λ r. IsOf R.ops R.is_element to.now r) }
+    ensures value { IfOk result (λ r. SameIn R.ops to.now r f.now) }
 {
     let zeros = to.vars() - from.vars();
     let mut terms = Vec::new(alloc);
