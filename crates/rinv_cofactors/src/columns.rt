@@ -1,13 +1,8 @@
 //! Cofactors at one place: sums over a column of the lists.
 
-ghost use Rattle.std.specs.Prelude.{◌≡◌, ◌<◌, length, map, All, IfOk, IfErr};
-ghost use Rattle.rinv_algebra.specs.Ring.{IsSame};
-ghost use Rattle.rinv_algebra.specs.Polynomial.{poly_ops, product, difference};
-ghost use Rattle.rinv_algebra.specs.Normal.{IsNormal};
-ghost use Rattle.rinv_algebra.specs.Ideal.{combination};
-ghost use Rattle.rinv_ring.specs.Fault.{DegreesMeet};
-ghost use Rattle.rinv_poly.specs.Combined.{ProductsSumMeet};
-ghost use Rattle.rinv_cofactors.specs.Combining.{CombinedMeets, column};
+ghost use Rattle.std.specs.Prelude.{◌≡◌, ◌<◌, length, All, IfOk, IfErr};
+ghost use Rattle.rinv_cofactors.specs.Lists.{AreListsOf, ColumnTooHigh, IsCombined, StopsHigh, SumsColumn};
+ghost use Rattle.rinv_div.specs.Polynomials.{AreOf, IsOf};
 
 use rinv_poly::{Poly, PolyRing};
 use rinv_ring::{Field, Ring, RingFault};
@@ -26,17 +21,17 @@ pub fn cofactor_at<F: Field>(
     lists: &[Vec<Poly<F>>],
     place: usize,
 ) -> Result<Poly<F>, RingFault>
-    requires left { IsNormal (F.ops ring.now.coeffs) (F.is_element ring.now.coeffs) ring.now.vars left.now }
-    requires first { IsNormal (F.ops ring.now.coeffs) (F.is_element ring.now.coeffs) ring.now.vars a.now }
-    requires right { IsNormal (F.ops ring.now.coeffs) (F.is_element ring.now.coeffs) ring.now.vars right.now }
-    requires second { IsNormal (F.ops ring.now.coeffs) (F.is_element ring.now.coeffs) ring.now.vars b.now }
+    requires left { IsOf F.ops F.is_element ring.now left.now }
+    requires first { IsOf F.ops F.is_element ring.now a.now }
+    requires right { IsOf F.ops F.is_element ring.now right.now }
+    requires second { IsOf F.ops F.is_element ring.now b.now }
     requires many { length quotients.now ≡ length lists.now }
-    requires quotients { All (IsNormal (F.ops ring.now.coeffs) (F.is_element ring.now.coeffs) ring.now.vars) quotients.now }
-    requires lists { All (λ us. All (IsNormal (F.ops ring.now.coeffs) (F.is_element ring.now.coeffs) ring.now.vars) us.items) lists.now }
+    requires quotients { AreOf F.ops F.is_element ring.now quotients.now }
+    requires lists { AreListsOf F.ops F.is_element ring.now lists.now }
     requires inside { All (λ us. place < length us.items) lists.now }
-    ensures element { IfOk result (IsNormal (F.ops ring.now.coeffs) (F.is_element ring.now.coeffs) ring.now.vars) }
-    ensures value { IfOk result (λ u. IsSame (poly_ops (F.ops ring.now.coeffs)) u (difference (F.ops ring.now.coeffs) (difference (F.ops ring.now.coeffs) (product (F.ops ring.now.coeffs) left.now a.now) (product (F.ops ring.now.coeffs) right.now b.now)) (combination (F.ops ring.now.coeffs) quotients.now (column (map (λ us. us.items) lists.now) place)))) }
-    ensures degree { IfErr result (DegreesMeet (CombinedMeets (F.ops ring.now.coeffs) (F.is_element ring.now.coeffs) (F.too_high ring.now.coeffs) ring.now.vars left.now a.now right.now b.now quotients.now (column (map (λ us. us.items) lists.now) place))) }
+    ensures element { IfOk result (IsOf F.ops F.is_element ring.now) }
+    ensures value { IfOk result (IsCombined F.ops ring.now left.now a.now right.now b.now quotients.now lists.now place) }
+    ensures degree { StopsHigh F.ops F.is_element F.too_high ring.now left.now a.now right.now b.now quotients.now lists.now place result }
 {
     let first = ring.mul(alloc, left, a)?;
     let second = ring.mul(alloc, right, b)?;
@@ -56,12 +51,12 @@ pub fn sum_of_products<F: Field>(
     place: usize,
 ) -> Result<Poly<F>, RingFault>
     requires many { length quotients.now ≡ length lists.now }
-    requires quotients { All (IsNormal (F.ops ring.now.coeffs) (F.is_element ring.now.coeffs) ring.now.vars) quotients.now }
-    requires lists { All (λ us. All (IsNormal (F.ops ring.now.coeffs) (F.is_element ring.now.coeffs) ring.now.vars) us.items) lists.now }
+    requires quotients { AreOf F.ops F.is_element ring.now quotients.now }
+    requires lists { AreListsOf F.ops F.is_element ring.now lists.now }
     requires inside { All (λ us. place < length us.items) lists.now }
-    ensures element { IfOk result (IsNormal (F.ops ring.now.coeffs) (F.is_element ring.now.coeffs) ring.now.vars) }
-    ensures value { IfOk result (λ u. IsSame (poly_ops (F.ops ring.now.coeffs)) u (combination (F.ops ring.now.coeffs) quotients.now (column (map (λ us. us.items) lists.now) place))) }
-    ensures degree { IfErr result (DegreesMeet (ProductsSumMeet (F.ops ring.now.coeffs) (F.is_element ring.now.coeffs) (F.too_high ring.now.coeffs) ring.now.vars quotients.now (column (map (λ us. us.items) lists.now) place))) }
+    ensures element { IfOk result (IsOf F.ops F.is_element ring.now) }
+    ensures value { IfOk result (SumsColumn F.ops ring.now quotients.now lists.now place) }
+    ensures degree { IfErr result (ColumnTooHigh F.ops F.is_element F.too_high ring.now quotients.now lists.now place) }
 {
     let mut products = Vec::with_capacity(alloc, quotients.len())?;
     'products: for k in 0..quotients.len() {

@@ -1,15 +1,12 @@
 //! The cofactors of a Gröbner basis over the polynomials given, made along its journal.
 
-ghost use Rattle.std.specs.Prelude.{◌≡◌, ◌<◌, ℕ, [], length, get_or, map, All, IfOk, IfErr};
-ghost use Rattle.rinv_algebra.specs.Ring.{IsSame};
-ghost use Rattle.rinv_algebra.specs.Polynomial.{Polynomial, poly_ops};
-ghost use Rattle.rinv_algebra.specs.Normal.{IsNormal};
-ghost use Rattle.rinv_algebra.specs.Ideal.{combination};
-ghost use Rattle.rinv_groebner.specs.Journal.{Journal};
-ghost use Rattle.rinv_ring.specs.Fault.{DegreesMeet};
-ghost use Rattle.rinv_div.specs.Divisors.{AreDivisors};
+ghost use Rattle.std.specs.Prelude.{◌≡◌, ◌<◌, length, All, IfOk, IfErr};
 ghost use Rattle.rinv_buch.specs.Kinds.{kind_of};
-ghost use Rattle.rinv_cofactors.specs.Combining.{AreCofactors, Combines, CombiningMeets, RestMeets, adds};
+ghost use Rattle.rinv_cofactors.specs.Combining.{adds};
+ghost use Rattle.rinv_cofactors.specs.Lists.{AreListsOf, AreRestCofactors, CombineBy, CombiningTooHigh, RestTooHigh, SumUp};
+ghost use Rattle.rinv_div.specs.Polynomials.{AreOf};
+ghost use Rattle.rinv_buch.specs.Bases.{IsMadeFrom};
+ghost use Rattle.rinv_div.specs.Divisors.{MadeOf};
 
 use crate::columns::cofactor_at;
 use crate::multipliers::multiplier_of;
@@ -31,16 +28,16 @@ pub fn combinations<F: Field, O: MonoOrder>(
     basis: &Basis<F>,
     order: &O,
 ) -> Result<Vec<Vec<Poly<F>>>, RingFault>
-    requires given { All (IsNormal (F.ops ring.now.coeffs) (F.is_element ring.now.coeffs) ring.now.vars) given.now }
-    requires polys { All (IsNormal (F.ops ring.now.coeffs) (F.is_element ring.now.coeffs) ring.now.vars) basis.now.polys }
+    requires given { AreOf F.ops F.is_element ring.now given.now }
+    requires polys { AreOf F.ops F.is_element ring.now basis.now.polys }
     requires suits { O.fits order.now ring.now.vars }
-    requires journal { Journal (F.ops ring.now.coeffs) (O.cmp order.now) given.now basis.now.journal basis.now.polys }
+    requires journal { IsMadeFrom F.ops O.cmp ring.now order.now given.now basis.now }
     ensures number { IfOk result (λ ls. length ls.items ≡ length basis.now.polys) }
     ensures lengths { IfOk result (λ ls. All (λ us. length us.items ≡ length given.now) ls.items) }
-    ensures normal { IfOk result (λ ls. All (λ us. All (IsNormal (F.ops ring.now.coeffs) (F.is_element ring.now.coeffs) ring.now.vars) us.items) ls.items) }
-    ensures sums_up { IfOk result (λ ls. (k : ℕ) → k < length basis.now.polys → IsSame (poly_ops (F.ops ring.now.coeffs)) (get_or basis.now.polys k []) (combination (F.ops ring.now.coeffs) (get_or (map (λ us. us.items) ls.items) k []) given.now)) }
-    ensures rule { IfOk result (λ ls. Combines (F.ops ring.now.coeffs) (O.cmp order.now) given.now basis.now.journal basis.now.polys (map (λ us. us.items) ls.items)) }
-    ensures degree { IfErr result (DegreesMeet (CombiningMeets (F.ops ring.now.coeffs) (F.is_element ring.now.coeffs) (F.too_high ring.now.coeffs) ring.now.vars (O.cmp order.now) given.now basis.now.journal basis.now.polys)) }
+    ensures normal { IfOk result (λ ls. AreListsOf F.ops F.is_element ring.now ls.items) }
+    ensures sums_up { IfOk result (SumUp F.ops ring.now given.now basis.now.polys) }
+    ensures rule { IfOk result (CombineBy F.ops O.cmp ring.now order.now given.now basis.now) }
+    ensures degree { IfErr result (CombiningTooHigh F.ops F.is_element F.too_high O.cmp ring.now order.now given.now basis.now) }
 {
     let mut lists = unit_lists(ring, alloc, given)?;
     let mut divisors = divisors_of(ring, alloc, &basis.polys[..lists.len()], order)?;
@@ -67,17 +64,17 @@ fn rest_cofactors<F: Field, O: MonoOrder>(
     entry: &Entry,
     order: &O,
 ) -> Result<Vec<Poly<F>>, RingFault>
-    requires polys { All (IsNormal (F.ops ring.now.coeffs) (F.is_element ring.now.coeffs) ring.now.vars) polys.now }
-    requires divisors { AreDivisors (F.ops ring.now.coeffs) (F.is_element ring.now.coeffs) ring.now.vars (O.cmp order.now) polys.now divisors.now.list.items }
+    requires polys { AreOf F.ops F.is_element ring.now polys.now }
+    requires divisors { MadeOf F.ops F.is_element O.cmp ring.now order.now polys.now divisors.now }
     requires suits { O.fits order.now ring.now.vars }
     requires many { length lists.now ≡ length polys.now }
-    requires lists { All (λ us. All (IsNormal (F.ops ring.now.coeffs) (F.is_element ring.now.coeffs) ring.now.vars) us.items) lists.now }
+    requires lists { AreListsOf F.ops F.is_element ring.now lists.now }
     requires lengths { All (λ us. length us.items ≡ count) lists.now }
     requires ascending { entry.now.first < entry.now.second }
     requires inside { entry.now.second < length polys.now }
-    ensures normal { IfOk result (λ us. All (IsNormal (F.ops ring.now.coeffs) (F.is_element ring.now.coeffs) ring.now.vars) us.items) }
-    ensures cofactors { IfOk result (λ us. (rest : Polynomial F.Elem) × AreCofactors (F.ops ring.now.coeffs) (O.cmp order.now) count polys.now (map (λ us. us.items) lists.now) entry.now.first entry.now.second rest us.items) }
-    ensures degree { IfErr result (DegreesMeet (RestMeets (F.ops ring.now.coeffs) (F.is_element ring.now.coeffs) (F.too_high ring.now.coeffs) ring.now.vars (O.cmp order.now) polys.now (map (λ us. us.items) lists.now) entry.now.first entry.now.second)) }
+    ensures normal { IfOk result (λ us. AreOf F.ops F.is_element ring.now us.items) }
+    ensures cofactors { IfOk result (AreRestCofactors F.ops O.cmp ring.now order.now count polys.now lists.now entry.now) }
+    ensures degree { IfErr result (RestTooHigh F.ops F.is_element F.too_high O.cmp ring.now order.now polys.now lists.now entry.now) }
 {
     let (first, second) = (entry.first as usize, entry.second as usize);
     let (f, g) = (&polys[first], &polys[second]);

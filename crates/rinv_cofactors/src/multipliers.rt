@@ -1,13 +1,11 @@
 //! The multiplier of a polynomial in the S-polynomial of two.
 
-ghost use Rattle.std.specs.Prelude.{◌≡◌, ◌≤◌, [], ◌∷◌, length, false, IfOk, IfErr, OnOk};
-ghost use Rattle.rinv_algebra.specs.Ring.{IsSame};
+ghost use Rattle.std.specs.Prelude.{◌≡◌, ◌≤◌, length, false, IfOk, IfErr, OnOk};
 ghost use Rattle.rinv_algebra.specs.Monomial.{quotient, lcm, total_degree, max_degree};
-ghost use Rattle.rinv_algebra.specs.Polynomial.{poly_ops, is_zero};
-ghost use Rattle.rinv_algebra.specs.Normal.{IsNormal};
-ghost use Rattle.rinv_algebra.specs.Leading.{leading_monomial, multiplier};
-ghost use Rattle.rinv_ring.specs.Fault.{DegreesMeet};
-ghost use Rattle.rinv_poly.specs.Combined.{TermMeets};
+ghost use Rattle.rinv_algebra.specs.Polynomial.{is_zero};
+ghost use Rattle.rinv_buch.specs.SPolynomials.{IsLowLcm};
+ghost use Rattle.rinv_cofactors.specs.Lists.{IsMultiplier, MultiplierTooHigh};
+ghost use Rattle.rinv_div.specs.Polynomials.{IsOf};
 
 use rinv_buch::leading_term;
 use rinv_mono::{Mono, MonoFault, MonoOrder};
@@ -23,15 +21,15 @@ pub fn multiplier_of<F: Field, O: MonoOrder>(
     g: &Poly<F>,
     order: &O,
 ) -> Result<Poly<F>, RingFault>
-    requires first { IsNormal (F.ops ring.now.coeffs) (F.is_element ring.now.coeffs) ring.now.vars f.now }
-    requires second { IsNormal (F.ops ring.now.coeffs) (F.is_element ring.now.coeffs) ring.now.vars g.now }
+    requires first { IsOf F.ops F.is_element ring.now f.now }
+    requires second { IsOf F.ops F.is_element ring.now g.now }
     requires first_nonzero { is_zero (F.ops ring.now.coeffs) f.now ≡ false }
     requires second_nonzero { is_zero (F.ops ring.now.coeffs) g.now ≡ false }
     requires suits { O.fits order.now ring.now.vars }
-    ensures element { IfOk result (IsNormal (F.ops ring.now.coeffs) (F.is_element ring.now.coeffs) ring.now.vars) }
-    ensures value { IfOk result (λ u. IsSame (poly_ops (F.ops ring.now.coeffs)) u (multiplier (F.ops ring.now.coeffs) (O.cmp order.now) f.now g.now ∷ [])) }
-    ensures low { OnOk result (total_degree (lcm (leading_monomial (F.ops ring.now.coeffs) (O.cmp order.now) f.now) (leading_monomial (F.ops ring.now.coeffs) (O.cmp order.now) g.now)) ≤ max_degree) }
-    ensures degree { IfErr result (DegreesMeet (TermMeets (F.ops ring.now.coeffs) (F.is_element ring.now.coeffs) (F.too_high ring.now.coeffs) ring.now.vars (multiplier (F.ops ring.now.coeffs) (O.cmp order.now) f.now g.now) f.now)) }
+    ensures element { IfOk result (IsOf F.ops F.is_element ring.now) }
+    ensures value { IfOk result (IsMultiplier F.ops O.cmp ring.now order.now f.now g.now) }
+    ensures low { OnOk result (IsLowLcm F.ops O.cmp ring.now order.now f.now g.now) }
+    ensures degree { IfErr result (MultiplierTooHigh F.ops F.is_element F.too_high O.cmp ring.now order.now f.now g.now) }
 {
     let (f_lead, _) = leading_term(ring, f, order);
     let (g_lead, g_coefficient) = leading_term(ring, g, order);

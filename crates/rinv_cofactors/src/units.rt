@@ -1,12 +1,8 @@
 //! Unit lists: the cofactors of polynomials that are given, over themselves.
 
-ghost use Rattle.std.specs.Prelude.{◌≡◌, ◌<◌, [], length, map, All, IfOk};
-ghost use Rattle.std.specs.List.{AllZip};
-ghost use Rattle.rinv_algebra.specs.Ring.{IsSame};
-ghost use Rattle.rinv_algebra.specs.Polynomial.{poly_ops};
-ghost use Rattle.rinv_algebra.specs.Normal.{IsNormal};
-ghost use Rattle.rinv_groebner.specs.Division.{AreSame};
-ghost use Rattle.rinv_cofactors.specs.Combining.{unit, units};
+ghost use Rattle.std.specs.Prelude.{◌≡◌, ◌<◌, length, All, IfOk};
+ghost use Rattle.rinv_cofactors.specs.Lists.{AreListsOf, AreUnits, AreZeros, IsUnit};
+ghost use Rattle.rinv_div.specs.Polynomials.{AreOf};
 
 use rinv_poly::{Poly, PolyRing};
 use rinv_ring::{Field, NoMemory, Ring};
@@ -18,10 +14,10 @@ pub fn unit_lists<F: Field>(
     alloc: Global,
     given: &[Poly<F>],
 ) -> Result<Vec<Vec<Poly<F>>>, NoMemory>
-    requires { All (IsNormal (F.ops ring.now.coeffs) (F.is_element ring.now.coeffs) ring.now.vars) given.now }
+    requires { AreOf F.ops F.is_element ring.now given.now }
     ensures lengths { IfOk result (λ ls. All (λ us. length us.items ≡ length given.now) ls.items) }
-    ensures normal { IfOk result (λ ls. All (λ us. All (IsNormal (F.ops ring.now.coeffs) (F.is_element ring.now.coeffs) ring.now.vars) us.items) ls.items) }
-    ensures units { IfOk result (λ ls. AllZip (AreSame (F.ops ring.now.coeffs)) (map (λ us. us.items) ls.items) (units (F.ops ring.now.coeffs) given.now)) }
+    ensures normal { IfOk result (λ ls. AreListsOf F.ops F.is_element ring.now ls.items) }
+    ensures units { IfOk result (AreUnits F.ops ring.now given.now) }
 {
     let mut lists = Vec::new(alloc);
     'places: for place in 0..given.len() {
@@ -42,8 +38,8 @@ fn unit_list<F: Field>(
 ) -> Result<Vec<Poly<F>>, NoMemory>
     requires { place < count }
     ensures length { IfOk result (λ us. length us.items ≡ count) }
-    ensures normal { IfOk result (λ us. All (IsNormal (F.ops ring.now.coeffs) (F.is_element ring.now.coeffs) ring.now.vars) us.items) }
-    ensures unit { IfOk result (λ us. AreSame (F.ops ring.now.coeffs) us.items (unit (F.ops ring.now.coeffs) count place)) }
+    ensures normal { IfOk result (λ us. AreOf F.ops F.is_element ring.now us.items) }
+    ensures unit { IfOk result (IsUnit F.ops ring.now count place) }
 {
     let mut list = zeros(ring, alloc, count)?;
     list[place] = ring.one(alloc)?;
@@ -57,8 +53,8 @@ fn zeros<F: Field>(
     count: usize,
 ) -> Result<Vec<Poly<F>>, NoMemory>
     ensures length { IfOk result (λ us. length us.items ≡ count) }
-    ensures normal { IfOk result (λ us. All (IsNormal (F.ops ring.now.coeffs) (F.is_element ring.now.coeffs) ring.now.vars) us.items) }
-    ensures zero { IfOk result (λ us. All (λ u. IsSame (poly_ops (F.ops ring.now.coeffs)) u []) us.items) }
+    ensures normal { IfOk result (λ us. AreOf F.ops F.is_element ring.now us.items) }
+    ensures zero { IfOk result (AreZeros F.ops ring.now) }
 {
     let mut list = Vec::with_capacity(alloc, count)?;
     'zeros: while list.len() < count {
