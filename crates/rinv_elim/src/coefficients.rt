@@ -1,9 +1,7 @@
 //! Polynomials in Z and the space's variables, read as polynomials in Z: the exponents of Z in a monomial, and the coefficient of one.
 
-ghost use Rattle.std.specs.Prelude.{◌≡◌, ◌+◌, ◌≤◌, ◌^◌, List, length, take, drop, All, IfOk, IsTrue, nat_lt};
-ghost use Rattle.rinv_algebra.specs.Residue.{residue_ops};
+ghost use Rattle.std.specs.Prelude.{◌≡◌, ◌+◌, ◌≤◌, ◌^◌, List, length, take, drop, All, IfOk, IsTrue};
 ghost use Rattle.rinv_algebra.specs.Monomial.{same_monomial};
-ghost use Rattle.rinv_algebra.specs.Normal.{IsNormal};
 ghost use Rattle.rinv_groebner.specs.Elimination.{is_free};
 ghost use Rattle.rinv_defs.specs.System.{group_count, space_count};
 ghost use Rattle.rinv_defs.specs.SystemForm.{IsSystem};
@@ -64,7 +62,7 @@ pub(crate) fn z_coefficient(
     requires system { IsSystem system.now.system }
     requires field { space_ring.now.coeffs ≡ system.now.system.p }
     requires vars { space_ring.now.vars ≡ space_count system.now.system }
-    requires polynomial { IsNormal (residue_ops system.now.system.p) (λ c. nat_lt c system.now.system.p) (all_count system.now.system) h.now }
+    requires polynomial { IsPart system.now.system.p (all_count system.now.system) h.now }
     requires free { All (λ t. IsTrue (is_free (group_count system.now.system) t.0)) h.now }
     requires z { length z.now ≡ space_count system.now.system }
     ensures stored { IfOk result (IsPart system.now.system.p (space_count system.now.system)) }

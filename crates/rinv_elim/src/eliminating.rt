@@ -3,15 +3,15 @@
 ghost use Rattle.std.specs.Prelude.{◌≡◌, false, All, IfOk, IfErr};
 ghost use Rattle.rinv_algebra.specs.Residue.{residue_ops};
 ghost use Rattle.rinv_algebra.specs.Polynomial.{is_zero};
-ghost use Rattle.rinv_algebra.specs.BlockEnds.{sizes_from, last_from};
-ghost use Rattle.rinv_algebra.specs.Order.{block_order};
-ghost use Rattle.rinv_groebner.specs.Elimination.{free_part, is_free};
+ghost use Rattle.rinv_algebra.specs.BlockEnds.{last_from};
+ghost use Rattle.rinv_groebner.specs.Elimination.{is_free};
 ghost use Rattle.rinv_ring.specs.Fault.{DegreesMeet};
 ghost use Rattle.rinv_defs.specs.System.{group_count};
 ghost use Rattle.rinv_defs.specs.SystemForm.{IsSystem};
 ghost use Rattle.rinv_parts.specs.Points.{ArePolynomials};
 ghost use Rattle.rinv_reduction.specs.Localised.{all_count, IsCut};
 ghost use Rattle.rinv_elim.specs.Action.{IsActionBasis, EliminationMeets};
+ghost use Rattle.rinv_elim.specs.Localising.{without_group};
 
 use rinv_action::{action_order, action_ring};
 use rinv_buch::kinds::Basis;
@@ -64,7 +64,7 @@ fn free_elements(
     requires suits { ring.now.vars ≡ last_from 0 order.now }
     requires polys { ArePolynomials ring.now.coeffs ring.now.vars polys.now }
     requires nonzero { All (λ h. is_zero (residue_ops ring.now.coeffs) h ≡ false) polys.now }
-    ensures { IfOk result (λ r. r.items ≡ free_part (residue_ops ring.now.coeffs) (block_order (sizes_from 0 order.now)) (group_count system.now.system) polys.now) }
+    ensures { IfOk result (λ r. r.items ≡ without_group ring.now.coeffs order.now system.now.system polys.now) }
 {
     let mut free = Vec::new(alloc);
     'elements: for k in 0..polys.len() {

@@ -1,20 +1,18 @@
 //! The relation of an element: it is divided by the coefficient of its leading monomial in Z, and solved for this monomial.
 
-ghost use Rattle.std.specs.Prelude.{◌≡◌, nat_lt, length, All, IfOk, IsTrue, IsFalse};
+ghost use Rattle.std.specs.Prelude.{◌≡◌, length, All, IfOk, IsTrue, IsFalse};
 ghost use Rattle.std.specs.List.{list_any};
 ghost use Rattle.rinv_algebra.specs.Residue.{residue_ops};
 ghost use Rattle.rinv_algebra.specs.Monomial.{same_monomial};
-ghost use Rattle.rinv_algebra.specs.Polynomial.{is_zero, opposite};
-ghost use Rattle.rinv_algebra.specs.Normal.{IsNormal};
+ghost use Rattle.rinv_algebra.specs.Polynomial.{is_zero};
 ghost use Rattle.rinv_groebner.specs.Elimination.{is_free};
 ghost use Rattle.rinv_defs.specs.System.{group_count, space_count};
 ghost use Rattle.rinv_defs.specs.SystemForm.{IsSystem};
 ghost use Rattle.rinv_defs.specs.PairConditions.{leading};
-ghost use Rattle.rinv_frac.specs.Cancelling.{IsCancelled};
 ghost use Rattle.rinv_frac.specs.Fractions.{IsPart, IsStored};
 ghost use Rattle.rinv_tails.specs.Stored.{IsStoredRelation};
-ghost use Rattle.rinv_reduction.specs.Localised.{all_count, lead_in_z, z_coefficient};
-ghost use Rattle.rinv_elim.specs.Localising.{IsSolved};
+ghost use Rattle.rinv_reduction.specs.Localised.{all_count, lead_in_z};
+ghost use Rattle.rinv_elim.specs.Localising.{IsSolved, IsMinus, IsSolvedBy};
 
 use crate::coefficients::{is_same, z_coefficient, z_part};
 use rinv_frac::{Frac, FracRing};
@@ -36,7 +34,7 @@ pub(crate) fn relation_of(
     requires system { IsSystem system.now.system }
     requires field { field.now.base.coeffs ≡ system.now.system.p }
     requires vars { field.now.base.vars ≡ space_count system.now.system }
-    requires normal { IsNormal (residue_ops system.now.system.p) (λ c. nat_lt c system.now.system.p) (all_count system.now.system) h.now }
+    requires normal { IsPart system.now.system.p (all_count system.now.system) h.now }
     requires nonzero { IsFalse (is_zero (residue_ops system.now.system.p) h.now) }
     requires free { IsTrue (is_free (group_count system.now.system) (leading system.now.system h.now)) }
     requires lead { lead.now ≡ lead_in_z system.now.system h.now }
@@ -73,13 +71,13 @@ fn solved_at(
     requires system { IsSystem system.now.system }
     requires field { field.now.base.coeffs ≡ system.now.system.p }
     requires vars { field.now.base.vars ≡ space_count system.now.system }
-    requires normal { IsNormal (residue_ops system.now.system.p) (λ c. nat_lt c system.now.system.p) (all_count system.now.system) h.now }
+    requires normal { IsPart system.now.system.p (all_count system.now.system) h.now }
     requires free { All (λ t. IsTrue (is_free (group_count system.now.system) t.0)) h.now }
     requires z { length z.now ≡ space_count system.now.system }
     requires divisor { IsPart system.now.system.p (space_count system.now.system) divisor.now }
     requires nonzero { IsFalse (is_zero (residue_ops system.now.system.p) divisor.now) }
     ensures stored { IfOk result (IsStored system.now.system.p (space_count system.now.system)) }
-    ensures solved { IfOk result (IsCancelled (residue_ops system.now.system.p) (opposite (residue_ops system.now.system.p) (z_coefficient system.now.system h.now z.now), divisor.now)) }
+    ensures solved { IfOk result (IsSolvedBy system.now.system h.now z.now divisor.now) }
 {
     let coefficient = z_coefficient(alloc, system, field.base(), h, z)?;
     let solved = solved(alloc, field, &coefficient, divisor)?;
@@ -106,7 +104,7 @@ fn solved(alloc: Global, field: &FracRing, c: &KPoly, d: &KPoly) -> Result<Frac,
     requires den { IsPart field.now.base.coeffs field.now.base.vars d.now }
     requires nonzero { IsFalse (is_zero (residue_ops field.now.base.coeffs) d.now) }
     ensures stored { IfOk result (IsStored field.now.base.coeffs field.now.base.vars) }
-    ensures solved { IfOk result (IsCancelled (residue_ops field.now.base.coeffs) (opposite (residue_ops field.now.base.coeffs) c.now, d.now)) }
+    ensures solved { IfOk result (IsMinus field.now.base.coeffs c.now d.now) }
 {
     let ring = field.base();
     let zero = ring.zero(alloc)?;

@@ -4,3 +4,5 @@ pub mod Recorded
 pub mod Settings
 -- an entry, step by step
 pub mod Divided
+-- what they are given and give
+pub mod Entries

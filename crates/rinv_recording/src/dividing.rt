@@ -1,17 +1,13 @@
 //! The quotients of a pair's S-polynomial.
 
 ghost use Rattle.std.specs.Prelude.{◌≡◌, ◌<◌, [], length, get_or, nat_lt, All, IfOk, IfErr, OnOk};
-ghost use Rattle.rinv_algebra.specs.Ring.{IsSame};
 ghost use Rattle.rinv_algebra.specs.Residue.{residue_ops};
-ghost use Rattle.rinv_algebra.specs.Polynomial.{poly_ops};
 ghost use Rattle.rinv_algebra.specs.Normal.{IsNormal};
 ghost use Rattle.rinv_ring.specs.Fault.{DegreesMeet};
-ghost use Rattle.rinv_div.specs.Divisors.{AreDivisors};
-ghost use Rattle.rinv_buch.specs.Runs.{s_at};
-ghost use Rattle.rinv_cofactors.specs.Combining.{AreQuotients};
 ghost use Rattle.rinv_parts.specs.Points.{ArePolynomials};
 ghost use Rattle.rinv_recording.specs.Recorded.{MultiplesMeet, QuotientsMeet};
 ghost use Rattle.rinv_recording.specs.Settings.{MultiplesFit};
+ghost use Rattle.rinv_recording.specs.Entries.{AreDivisorsIn, AreQuotientsIn, IsSAt};
 
 use crate::multiples::check_multiple;
 use rinv_buch::s_polynomial_of;
@@ -32,12 +28,12 @@ fn s_polynomial_at<O: MonoOrder>(
     order: &O,
 ) -> Result<KPoly, RingFault>
     requires polys { ArePolynomials ring.now.coeffs ring.now.vars polys.now }
-    requires divisors { AreDivisors (residue_ops ring.now.coeffs) (λ c. nat_lt c ring.now.coeffs) ring.now.vars (O.cmp order.now) polys.now divisors.now.list.items }
+    requires divisors { AreDivisorsIn ring.now.coeffs ring.now.vars (O.cmp order.now) polys.now divisors.now.list.items }
     requires suits { O.fits order.now ring.now.vars }
     requires ascending { first < second }
     requires inside { second < length polys.now }
     ensures element { IfOk result (IsNormal (residue_ops ring.now.coeffs) (λ c. nat_lt c ring.now.coeffs) ring.now.vars) }
-    ensures value { IfOk result (λ s. IsSame (poly_ops (residue_ops ring.now.coeffs)) s (s_at (residue_ops ring.now.coeffs) (O.cmp order.now) polys.now first second)) }
+    ensures value { IfOk result (IsSAt ring.now.coeffs (O.cmp order.now) polys.now first second) }
     ensures fits { OnOk result (MultiplesFit ring.now.coeffs (O.cmp order.now) (get_or polys.now first []) (get_or polys.now second [])) }
     ensures degree { IfErr result (DegreesMeet (MultiplesMeet ring.now.coeffs (O.cmp order.now) polys.now first second)) }
 {
@@ -60,11 +56,11 @@ pub(crate) fn quotients_at<O: MonoOrder>(
     order: &O,
 ) -> Result<Vec<KPoly>, RingFault>
     requires polys { ArePolynomials ring.now.coeffs ring.now.vars polys.now }
-    requires divisors { AreDivisors (residue_ops ring.now.coeffs) (λ c. nat_lt c ring.now.coeffs) ring.now.vars (O.cmp order.now) polys.now divisors.now.list.items }
+    requires divisors { AreDivisorsIn ring.now.coeffs ring.now.vars (O.cmp order.now) polys.now divisors.now.list.items }
     requires suits { O.fits order.now ring.now.vars }
     requires ascending { first < second }
     requires inside { second < length polys.now }
-    ensures quotients { IfOk result (λ qs. AreQuotients (residue_ops ring.now.coeffs) (λ c. nat_lt c ring.now.coeffs) ring.now.vars (O.cmp order.now) polys.now first second qs.items) }
+    ensures quotients { IfOk result (λ qs. AreQuotientsIn ring.now.coeffs ring.now.vars (O.cmp order.now) polys.now first second qs.items) }
     ensures fits { OnOk result (MultiplesFit ring.now.coeffs (O.cmp order.now) (get_or polys.now first []) (get_or polys.now second [])) }
     ensures degree { IfErr result (DegreesMeet (QuotientsMeet ring.now.coeffs (O.cmp order.now) polys.now first second)) }
 {

@@ -1,19 +1,12 @@
 //! One entry of the journal.
 
-ghost use Rattle.std.specs.Prelude.{◌≡◌, ◌+◌, ◌<◌, ◌≤◌, length, nat_lt, take, IfOk, IfErr};
-ghost use Rattle.std.specs.Result.{MatchResult};
-ghost use Rattle.rinv_algebra.specs.BlockEnds.{sizes_from, last_from};
-ghost use Rattle.rinv_algebra.specs.Order.{block_order};
-ghost use Rattle.rinv_algebra.specs.Residue.{residue_ops};
+ghost use Rattle.std.specs.Prelude.{◌≡◌, ◌+◌, ◌<◌, ◌≤◌, length, take, IfOk, IfErr};
+ghost use Rattle.rinv_algebra.specs.BlockEnds.{last_from};
 ghost use Rattle.rinv_ring.specs.Fault.{DegreesMeet};
-ghost use Rattle.rinv_div.specs.Divisors.{AreDivisors};
-ghost use Rattle.rinv_defs.specs.System.{System};
-ghost use Rattle.rinv_cert.specs.Seen.{pair_item_by};
 ghost use Rattle.rinv_buch.specs.Kinds.{kind_of};
 ghost use Rattle.rinv_parts.specs.Points.{ArePolynomials};
-ghost use Rattle.rinv_recording.specs.Recorded.{PairMeets, QuotientsMeet};
-ghost use Rattle.rinv_recording.specs.Settings.{IsSetting};
-ghost use Rattle.rinv_recording.specs.Divided.{AreDividedAgain, AreQuotientsFor, EntryHasRoom, HasRoom, IsItemFor};
+ghost use Rattle.rinv_recording.specs.Divided.{EntryHasRoom, HasRoom};
+ghost use Rattle.rinv_recording.specs.Entries.{AreDivisorsBy, DividingMeets, IsDividedAgain, RecordsEntry, RecordsQuotients};
 
 use crate::dividing::quotients_at;
 use crate::padding::padded;
@@ -49,12 +42,12 @@ fn recorded(
     added: Option<u32>,
 ) -> Result<Vec<KPoly>, RingFault>
     requires polys { ArePolynomials ring.now.coeffs ring.now.vars polys.now }
-    requires divisors { AreDivisors (residue_ops ring.now.coeffs) (λ c. nat_lt c ring.now.coeffs) ring.now.vars (block_order (sizes_from 0 order.now)) (take made polys.now) divisors.now.list.items }
+    requires divisors { AreDivisorsBy ring.now.coeffs ring.now.vars order.now (take made polys.now) divisors.now.list.items }
     requires suits { ring.now.vars ≡ last_from 0 order.now }
     requires room { HasRoom entry.now.first entry.now.second made (length polys.now) added }
-    ensures again { IfOk result (λ q. AreDividedAgain ring.now.coeffs ring.now.vars (block_order (sizes_from 0 order.now)) (take made polys.now) (length polys.now) entry.now.first entry.now.second added q.items) }
+    ensures again { IfOk result (λ q. IsDividedAgain ring.now.coeffs ring.now.vars order.now made polys.now entry.now added q.items) }
     ensures number { IfOk result (λ q. length q.items ≡ length polys.now) }
-    ensures degree { IfErr result (DegreesMeet (QuotientsMeet ring.now.coeffs (block_order (sizes_from 0 order.now)) (take made polys.now) entry.now.first entry.now.second)) }
+    ensures degree { IfErr result (DegreesMeet (DividingMeets ring.now.coeffs order.now made polys.now entry.now)) }
 {
     let (first, second) = (entry.first as usize, entry.second as usize);
     let quotients = quotients_at(ring, alloc, &polys[..made], divisors, first, second, order)?;
@@ -74,10 +67,10 @@ fn plain_quotients(
     added: Option<u32>,
 ) -> Result<Items<Plain>, RingFault>
     requires polys { ArePolynomials ring.now.coeffs ring.now.vars polys.now }
-    requires divisors { AreDivisors (residue_ops ring.now.coeffs) (λ c. nat_lt c ring.now.coeffs) ring.now.vars (block_order (sizes_from 0 order.now)) (take made polys.now) divisors.now.list.items }
+    requires divisors { AreDivisorsBy ring.now.coeffs ring.now.vars order.now (take made polys.now) divisors.now.list.items }
     requires suits { ring.now.vars ≡ last_from 0 order.now }
     requires room { HasRoom entry.now.first entry.now.second made (length polys.now) added }
-    ensures { (s : System) → IsSetting s ring.now.coeffs ring.now.vars order.now → MatchResult result (λ q. AreQuotientsFor s (take made polys.now) polys.now entry.now.first entry.now.second added q) (DegreesMeet (PairMeets s (take made polys.now) polys.now entry.now.first entry.now.second)) }
+    ensures { RecordsQuotients result ring.now.coeffs ring.now.vars order.now made polys.now entry.now added }
 {
     let q = recorded(alloc, ring, order, polys, made, divisors, entry, added)?;
     check_sums(ring, &q, polys)?;
@@ -97,10 +90,10 @@ pub(crate) fn item_of(
     entry: &Entry,
 ) -> Result<PairItem<Plain>, RingFault>
     requires polys { ArePolynomials ring.now.coeffs ring.now.vars polys.now }
-    requires divisors { AreDivisors (residue_ops ring.now.coeffs) (λ c. nat_lt c ring.now.coeffs) ring.now.vars (block_order (sizes_from 0 order.now)) (take made polys.now) divisors.now.list.items }
+    requires divisors { AreDivisorsBy ring.now.coeffs ring.now.vars order.now (take made polys.now) divisors.now.list.items }
     requires suits { ring.now.vars ≡ last_from 0 order.now }
     requires room { EntryHasRoom entry.now.first entry.now.second made (length polys.now) (kind_of entry.now.kind) }
-    ensures { (s : System) → IsSetting s ring.now.coeffs ring.now.vars order.now → MatchResult result (λ e. IsItemFor s (take made polys.now) polys.now entry.now.first entry.now.second (kind_of entry.now.kind) (pair_item_by (λ f. f) e)) (DegreesMeet (PairMeets s (take made polys.now) polys.now entry.now.first entry.now.second)) }
+    ensures { RecordsEntry result ring.now.coeffs ring.now.vars order.now made polys.now entry.now }
 {
     let i = number_of(entry.first)?;
     let j = number_of(entry.second)?;

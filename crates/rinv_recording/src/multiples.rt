@@ -1,14 +1,13 @@
 //! Whether the multiples in an S-polynomial are within the limit on degrees.
 
-ghost use Rattle.std.specs.Prelude.{◌≡◌, ◌≤◌, [], ◌∷◌, length, true, false, nat_lt, IfErr, OnOk};
+ghost use Rattle.std.specs.Prelude.{◌≡◌, ◌≤◌, length, false, nat_lt, IfErr, OnOk};
 ghost use Rattle.rinv_algebra.specs.Residue.{residue_ops};
 ghost use Rattle.rinv_algebra.specs.Monomial.{quotient, lcm, total_degree, max_degree};
 ghost use Rattle.rinv_algebra.specs.Polynomial.{is_zero};
 ghost use Rattle.rinv_algebra.specs.Normal.{IsNormal};
-ghost use Rattle.rinv_algebra.specs.Leading.{leading_monomial, multiplier};
-ghost use Rattle.rinv_algebra.specs.Fits.{product_fits};
 ghost use Rattle.rinv_ring.specs.Fault.{DegreesMeet};
 ghost use Rattle.rinv_recording.specs.Recorded.{MultipleMeets};
+ghost use Rattle.rinv_recording.specs.Entries.{IsLowLcm, MultipleFits};
 
 use rinv_buch::leading_term;
 use rinv_fits::greatest_degree;
@@ -29,8 +28,8 @@ pub(crate) fn check_multiple<O: MonoOrder>(
     requires first_nonzero { is_zero (residue_ops ring.now.coeffs) f.now ≡ false }
     requires second_nonzero { is_zero (residue_ops ring.now.coeffs) g.now ≡ false }
     requires suits { O.fits order.now ring.now.vars }
-    ensures fits { OnOk result (product_fits (residue_ops ring.now.coeffs) (multiplier (residue_ops ring.now.coeffs) (O.cmp order.now) f.now g.now ∷ []) f.now ≡ true) }
-    ensures low { OnOk result (total_degree (lcm (leading_monomial (residue_ops ring.now.coeffs) (O.cmp order.now) f.now) (leading_monomial (residue_ops ring.now.coeffs) (O.cmp order.now) g.now)) ≤ max_degree) }
+    ensures fits { OnOk result (MultipleFits ring.now.coeffs (O.cmp order.now) f.now g.now) }
+    ensures low { OnOk result (IsLowLcm ring.now.coeffs (O.cmp order.now) f.now g.now) }
     ensures degree { IfErr result (DegreesMeet (MultipleMeets ring.now.coeffs (O.cmp order.now) f.now g.now)) }
 {
     let (f_lead, _) = leading_term(ring, f, order);

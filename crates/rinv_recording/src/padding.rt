@@ -1,11 +1,11 @@
 //! Quotients by the first elements of a list, as quotients by the whole list.
 
-ghost use Rattle.std.specs.Prelude.{◌≡◌, ◌-◌, [], ◌∷◌, ◌++◌, length, replicate, IfOk};
+ghost use Rattle.std.specs.Prelude.{◌≡◌, IfOk};
 ghost use Rattle.rinv_algebra.specs.Residue.{residue_ops};
-ghost use Rattle.rinv_algebra.specs.Polynomial.{poly_ops};
 ghost use Rattle.rinv_groebner.specs.Division.{AreSame};
 ghost use Rattle.rinv_parts.specs.Points.{ArePolynomials};
 ghost use Rattle.rinv_recording.specs.Recorded.{padded};
+ghost use Rattle.rinv_recording.specs.Entries.{with_unit, with_zeros};
 
 use rinv_poly::{KPoly, PolyRing};
 use rinv_ring::{Gf, NoMemory, Ring};
@@ -20,7 +20,7 @@ fn with_zeros(
 ) -> Result<Vec<KPoly>, NoMemory>
     requires { ArePolynomials ring.now.coeffs ring.now.vars begun.items }
     ensures normal { IfOk result (λ r. ArePolynomials ring.now.coeffs ring.now.vars r.items) }
-    ensures value { IfOk result (λ r. AreSame (residue_ops ring.now.coeffs) r.items (begun.items ++ replicate (count - length begun.items) [])) }
+    ensures value { IfOk result (λ r. AreSame (residue_ops ring.now.coeffs) r.items (with_zeros begun.items count)) }
 {
     let mut list = begun;
     'zeros: while list.len() < count {
@@ -34,7 +34,7 @@ fn with_zeros(
 fn with_one(alloc: Global, ring: &PolyRing<Gf>, begun: Vec<KPoly>) -> Result<Vec<KPoly>, NoMemory>
     requires { ArePolynomials ring.now.coeffs ring.now.vars begun.items }
     ensures normal { IfOk result (λ r. ArePolynomials ring.now.coeffs ring.now.vars r.items) }
-    ensures value { IfOk result (λ r. AreSame (residue_ops ring.now.coeffs) r.items (begun.items ++ (poly_ops (residue_ops ring.now.coeffs)).one ∷ [])) }
+    ensures value { IfOk result (λ r. AreSame (residue_ops ring.now.coeffs) r.items (with_unit ring.now.coeffs begun.items)) }
 {
     let mut list = begun;
     let one = ring.one(alloc)?;

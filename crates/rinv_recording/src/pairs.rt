@@ -8,6 +8,7 @@ ghost use Rattle.rinv_buch.specs.Kinds.{journal_of, kind_of};
 ghost use Rattle.rinv_cofactors.specs.Combining.{adds};
 ghost use Rattle.rinv_action.specs.Action.{IsActionBasis};
 ghost use Rattle.rinv_recording.specs.Recorded.{ArePairItemsOf, PairsFit, PairsMeet};
+ghost use Rattle.rinv_recording.specs.Entries.{found_of, AreItemsOf};
 
 use crate::entries::item_of;
 use rinv_action::{action_order, action_ring};
@@ -52,10 +53,10 @@ fn recorded_list(
     journal: &[Entry],
 ) -> Result<Vec<PairItem<Plain>>, RingFault>
     requires system { IsSystem system.now.system }
-    requires action { IsActionBasis system.now.system (record { polys = polys.now; journal = journal_of journal.now }) }
-    ensures items { IfOk result (λ r. ArePairItemsOf system.now.system (record { polys = polys.now; journal = journal_of journal.now }) (map (pair_item_by (λ f. f)) r.items)) }
+    requires action { IsActionBasis system.now.system (found_of polys.now journal.now) }
+    ensures items { IfOk result (λ r. AreItemsOf system.now.system polys.now journal.now r.items) }
     ensures fits { IfOk result (λ r. PairsFit system.now.system polys.now (map (pair_item_by (λ f. f)) r.items)) }
-    ensures degree { IfErr result (DegreesMeet (PairsMeet system.now.system (record { polys = polys.now; journal = journal_of journal.now }))) }
+    ensures degree { IfErr result (DegreesMeet (PairsMeet system.now.system (found_of polys.now journal.now))) }
 {
     let ring = action_ring(system);
     let order = action_order(alloc, system)?;

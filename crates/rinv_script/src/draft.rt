@@ -10,7 +10,7 @@ ghost use Rattle.rinv_system.specs.Lines.{is_allowed};
 ghost use Rattle.rinv_system.specs.Texts.{IsLineRefused, IsLineTaken};
 ghost use Rattle.rinv_script.specs.Scripts.{blank_script, has_script, given_names, name_fault, query_fault, IsFraction};
 ghost use Rattle.rinv_script.specs.Stored.{query_of};
-ghost use Rattle.rinv_script.specs.Kept.{code_behind, IsKept, IsValueRefused};
+ghost use Rattle.rinv_script.specs.Kept.{code_behind, IsKept, IsValueRefused, with_definition};
 
 use crate::form::{Form, Query};
 use rinv_frac::{Frac, FracRing};
@@ -202,7 +202,7 @@ impl ScriptDraft {
         requires new { name_fault self.old name.now ≡ None }
         requires numerator { All (λ t. total_degree t.0 ≤ formal.num_degree) value.0 }
         requires denominator { All (λ t. total_degree t.0 ≤ formal.den_degree) value.1 }
-        ensures { OnOk result (self.new ≡ record self.old { defs = self.old.defs ++ (record { name = name.now; value = value; formal = formal }) ∷ [] }) }
+        ensures { OnOk result (self.new ≡ with_definition self.old name.now value formal) }
     {
         match add_both(
             alloc,

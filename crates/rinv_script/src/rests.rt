@@ -1,16 +1,12 @@
 //! What follows the word of a script line.
 
-ghost use Rattle.std.specs.Prelude.{◌≡◌, ◌<◌, ◌≤◌, ◌-◌, ◌^◌, List, ℕ, length, IsTrue, IsFalse, ◌==◌, ◌++◌, ◌∷◌, [], MatchOption, IfSome, IfOk, IfErr, OnOk};
+ghost use Rattle.std.specs.Prelude.{◌≡◌, ◌<◌, ◌≤◌, ◌-◌, ◌^◌, List, length, IsTrue, IsFalse, ◌==◌, MatchOption, IfSome, IfOk, IfErr, OnOk};
 ghost use Rattle.std.specs.List.{list_all, list_any};
 ghost use Rattle.rinv_system.specs.Lines.{is_allowed};
 ghost use Rattle.rinv_system.specs.Drafts.{is_whole};
 ghost use Rattle.rinv_system.specs.Stops.{OnCode};
-ghost use Rattle.rinv_algebra.specs.Fraction.{Fraction};
-ghost use Rattle.rinv_script.specs.declared.words.ScriptWord.{ScriptWord as Word};
-ghost use Rattle.rinv_script.specs.Queries.{Query as Asked};
-ghost use Rattle.rinv_script.specs.Words.{AsksAlone, AsksOf};
 ghost use Rattle.rinv_script.specs.Scripts.{defined_name, defined_value, name_fault, IsScriptRestRefused, IsScriptRestTaken};
-ghost use Rattle.rinv_script.specs.Kept.{IsKept, IsValueRefused, Defines};
+ghost use Rattle.rinv_script.specs.Kept.{IsKept, IsValueRefused, Defines, RefusesAlone, RefusesAsked, TakesAlone, TakesAsked};
 
 use crate::draft::ScriptDraft;
 use crate::form::Query;
@@ -79,8 +75,8 @@ fn add_definition(alloc: Global, draft: &mut ScriptDraft, rest: &[u8]) -> Result
 
 // Whether the rest of a line is left out, where one query more may be asked.
 fn alone(draft: &ScriptDraft, rest: &[u8]) -> Result<(), LineStop>
-    ensures ok { IfOk result (λ _. (w : Word) (q : Asked) → AsksAlone w q → IsScriptRestTaken draft.now rest.now w (record draft.now { queries = draft.now.queries ++ q ∷ [] })) }
-    ensures fault { IfErr result (OnCode (λ code. (w : Word) (q : Asked) → AsksAlone w q → IsScriptRestRefused draft.now rest.now w code)) }
+    ensures ok { IfOk result (λ _. TakesAlone draft.now rest.now) }
+    ensures fault { IfErr result (OnCode (RefusesAlone draft.now rest.now)) }
 {
     if !rest.is_empty() {
         return Err(no_expression());
@@ -97,8 +93,8 @@ fn asked(alloc: Global, draft: &ScriptDraft, rest: &[u8]) -> Result<Frac, LineSt
     requires kept { IsKept draft.now }
     requires short { length rest.now < 2 ^ 32 - 1 }
     requires allowed { IsTrue (list_all is_allowed rest.now) }
-    ensures ok { IfOk result (λ f. (w : Word) (ask : Fraction ℕ → Asked) → AsksOf w ask → IsScriptRestTaken draft.now rest.now w (record draft.now { queries = draft.now.queries ++ ask f ∷ [] })) }
-    ensures fault { IfErr result (OnCode (λ code. (w : Word) (ask : Fraction ℕ → Asked) → AsksOf w ask → IsScriptRestRefused draft.now rest.now w code)) }
+    ensures ok { IfOk result (TakesAsked draft.now rest.now) }
+    ensures fault { IfErr result (OnCode (RefusesAsked draft.now rest.now)) }
 {
     let next = draft.query_fault();
     let (fraction, _) = draft.fraction(alloc, ascii_text(rest), next)?;
