@@ -4,3 +4,5 @@ pub mod AtGraph
 pub mod Quotients
 -- what these are made of
 pub mod Grounds
+-- the point and the values, as they are stored
+pub mod Stored

@@ -1,11 +1,8 @@
 //! What stands for the variables of the group, for Z and for the space's variables where Z = g.
 
-ghost use Rattle.std.specs.Prelude.{◌≡◌, ◌+◌, ◌≤◌, ◌++◌, List, map, IfOk, OnOk};
-ghost use Rattle.std.specs.List.{range_with_len};
-ghost use Rattle.rinv_algebra.specs.Residue.{residue_ops};
-ghost use Rattle.rinv_algebra.specs.Polynomial.{variable};
-ghost use Rattle.rinv_defs.specs.System.{Poly};
-ghost use Rattle.rinv_parts.specs.Points.{ArePolynomials, AreStored};
+ghost use Rattle.std.specs.Prelude.{◌≡◌, ◌+◌, ◌≤◌, IfOk};
+ghost use Rattle.rinv_parts.specs.Points.{ArePolynomials};
+ghost use Rattle.rinv_at_graph.specs.Stored.{AddsVariables, AreGraphPoint};
 
 use rinv_poly::{KPoly, PolyRing};
 use rinv_ring::{Gf, NoMemory, Ring};
@@ -21,7 +18,7 @@ fn add_variables(
     point: &mut Vec<KPoly>,
 ) -> Result<(), NoMemory>
     requires { place + count ≤ ring.now.vars }
-    ensures { (xs : List Poly) → AreStored ring.now.coeffs ring.now.vars xs point.old.items → OnOk result (AreStored ring.now.coeffs ring.now.vars (xs ++ map (variable (residue_ops ring.now.coeffs)) (range_with_len place count)) point.new.items) }
+    ensures { AddsVariables result ring.now.coeffs ring.now.vars place count point.old.items point.new.items }
 {
     let _vars = ring.vars();
     'places: for k in 0..count {
@@ -41,7 +38,7 @@ pub(crate) fn graph_point(
 ) -> Result<Vec<KPoly>, NoMemory>
     requires vars { whole.now.vars ≡ group + space }
     requires action { ArePolynomials whole.now.coeffs whole.now.vars action.now }
-    ensures { IfOk result (λ r. AreStored whole.now.coeffs whole.now.vars (map (variable (residue_ops whole.now.coeffs)) (range_with_len 0 group) ++ action.now ++ map (variable (residue_ops whole.now.coeffs)) (range_with_len group space)) r.items) }
+    ensures { IfOk result (λ r. AreGraphPoint whole.now.coeffs whole.now.vars group space action.now r.items) }
 {
     let mut point = Vec::new(alloc);
     add_variables(alloc, whole, 0, group, &mut point)?;

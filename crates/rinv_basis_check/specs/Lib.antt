@@ -2,3 +2,4 @@ pub mod Listed
 pub mod Bases
 pub mod Relations
 pub mod Multiples
+pub mod Whichever

@@ -1,11 +1,11 @@
 //! One entry on a pair: whether it is the first on its pair, and settles it.
 
-ghost use Rattle.std.specs.Prelude.{◌≡◌, ◌≤◌, List, length, true, IfOk};
-ghost use Rattle.rinv_defs.specs.Certificate.{Certificate, PairItem as Item};
+ghost use Rattle.std.specs.Prelude.{◌≡◌, ◌≤◌, length, true, IfOk};
+ghost use Rattle.rinv_defs.specs.Certificate.{Certificate};
 ghost use Rattle.rinv_defs.specs.PairConditions.{places, leading, element, is_good_entry, settles};
 ghost use Rattle.rinv_cert.specs.Seen.{pair_item_by};
 ghost use Rattle.rinv_basis_check.specs.Bases.{IsBasisOf, is_pair_form_in};
-ghost use Rattle.rinv_basis_check.specs.Listed.{ArePairsOf};
+ghost use Rattle.rinv_basis_check.specs.Whichever.{OfEarlier};
 
 use crate::basis::Basis;
 use crate::listed_pairs::ListedPairs;
@@ -46,9 +46,7 @@ fn settles(
     entry: &PairItem<KPoly>,
 ) -> Result<bool, NoMemory>
     requires form { is_pair_form_in basis.now entry.now ≡ true }
-    ensures { (c : Certificate) (earlier : List Item) → IsBasisOf c basis.now →
-        ArePairsOf listed.now earlier →
-        IfOk result (λ b. b ≡ settles c earlier (pair_item_by (λ f. f) entry.now)) }
+    ensures { OfEarlier basis.now listed.now (λ c before. IfOk result (λ b. b ≡ settles c before (pair_item_by (λ f. f) entry.now))) }
 {
     match entry {
         PairItem::Coprime { i, j } => Ok(coprime(lead(basis, *i), lead(basis, *j))),
@@ -72,9 +70,7 @@ pub(crate) fn is_good_entry(
     entry: &PairItem<KPoly>,
 ) -> Result<bool, NoMemory>
     requires form { is_pair_form_in basis.now entry.now ≡ true }
-    ensures { (c : Certificate) (earlier : List Item) → IsBasisOf c basis.now →
-        ArePairsOf listed.now earlier →
-        IfOk result (λ b. b ≡ is_good_entry c earlier (pair_item_by (λ f. f) entry.now)) }
+    ensures { OfEarlier basis.now listed.now (λ c before. IfOk result (λ b. b ≡ is_good_entry c before (pair_item_by (λ f. f) entry.now))) }
 {
     let (i, j) = places(entry);
     if listed.has(i, j) {

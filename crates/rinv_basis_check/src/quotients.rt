@@ -13,6 +13,7 @@ ghost use Rattle.rinv_defs.specs.PairConditions.{element, reduces_to_zero, stays
 ghost use Rattle.rinv_form.specs.Forms.{is_stored, are_stored};
 ghost use Rattle.rinv_basis_check.specs.Bases.{IsBasisOf};
 ghost use Rattle.rinv_basis_check.specs.Multiples.{multiple_fits, IsMultiple};
+ghost use Rattle.rinv_basis_check.specs.Whichever.{InBasis};
 
 use crate::basis::Basis;
 use crate::elements::lead_of;
@@ -69,8 +70,7 @@ fn stays_below(
     requires quotient { IsTrue (is_stored basis.now.ring.coeffs basis.now.ring.vars quotient.now) }
     requires common { length common.now ≡ basis.now.ring.vars }
     requires fits { product_fits (residue_ops basis.now.ring.coeffs) quotient.now (get_or basis.now.elements.items place []) ≡ true }
-    ensures { (c : Certificate) → IsBasisOf c basis.now →
-        IfOk result (λ b. b ≡ stays_below c.system common.now (quotient.now, element c (place + 1))) }
+    ensures { InBasis basis.now (λ c. IfOk result (λ b. b ≡ stays_below c.system common.now (quotient.now, element c (place + 1)))) }
 {
     let ring = &basis.ring;
     if ring.is_zero(quotient) {
@@ -95,8 +95,7 @@ fn all_stay_below(
     requires quotients { IsTrue (list_all (is_stored basis.now.ring.coeffs basis.now.ring.vars) quotients.now) }
     requires common { length common.now ≡ basis.now.ring.vars }
     requires fits { combination_fits (residue_ops basis.now.ring.coeffs) quotients.now basis.now.elements.items ≡ true }
-    ensures { (c : Certificate) → IsBasisOf c basis.now →
-        IfOk result (λ b. b ≡ list_all (stays_below c.system common.now) (zip quotients.now (elements c))) }
+    ensures { InBasis basis.now (λ c. IfOk result (λ b. b ≡ list_all (stays_below c.system common.now) (zip quotients.now (elements c)))) }
 {
     'quotients: for k in 0..quotients.len() {
         if !stays_below(alloc, basis, common, &quotients[k], k)? {
@@ -118,8 +117,7 @@ pub(crate) fn reduces_to_zero(
     requires first { f < length basis.now.elements.items }
     requires second { g < length basis.now.elements.items }
     requires quotients { IsTrue (are_stored basis.now.ring.coeffs basis.now.ring.vars (length basis.now.elements.items) quotients.now) }
-    ensures { (c : Certificate) → IsBasisOf c basis.now →
-        IfOk result (λ b. b ≡ reduces_to_zero c (element c (f + 1)) (element c (g + 1)) quotients.now) }
+    ensures { InBasis basis.now (λ c. IfOk result (λ b. b ≡ reduces_to_zero c (element c (f + 1)) (element c (g + 1)) quotients.now)) }
 {
     let common = match basis.leads[f].lcm(alloc, &basis.leads[g]) {
         Ok(common) => common,

@@ -1,11 +1,8 @@
 //! One relation: its polynomial in the group's variables, Z and the space's.
 
-ghost use Rattle.std.specs.Prelude.{◌≡◌, ◌++◌, [], ◌∷◌, replicate, true, IsTrue, IfOk, IfSome, is_some};
-ghost use Rattle.rinv_algebra.specs.Ring.{IsSame};
-ghost use Rattle.rinv_algebra.specs.Residue.{residue_ops};
-ghost use Rattle.rinv_algebra.specs.Polynomial.{poly_ops};
+ghost use Rattle.std.specs.Prelude.{◌≡◌, true, IsTrue, IfOk, IfSome, is_some};
 ghost use Rattle.rinv_defs.specs.System.{System};
-ghost use Rattle.rinv_defs.specs.RelationConditions.{z_power, relation_of};
+ghost use Rattle.rinv_defs.specs.RelationConditions.{z_power};
 ghost use Rattle.rinv_cert.specs.Seen.{relation_item_by};
 ghost use Rattle.rinv_form.specs.Forms.{is_stored};
 ghost use Rattle.rinv_form.specs.ItemForms.{are_exponents};
@@ -16,6 +13,7 @@ ghost use Rattle.rinv_basis_check.specs.Relations.{
   power_fits,
   relation_fits,
 };
+ghost use Rattle.rinv_basis_check.specs.Whichever.{InRings, IsMonomialOf, IsRelationPoly};
 
 use crate::rings::RelationRings;
 use rinv_cert::RelationItem;
@@ -28,7 +26,7 @@ use std::alloc::Global;
 fn z_power(alloc: Global, rings: &RelationRings, exponents: &[u32]) -> Result<KPoly, NoMemory>
     requires { are_exponents rings.now.space.vars exponents.now ≡ true }
     ensures element { IfOk result (λ r. IsTrue (is_stored rings.now.graph.coeffs rings.now.graph.vars r)) }
-    ensures value { IfOk result (λ r. IsSame (poly_ops (residue_ops rings.now.graph.coeffs)) r ((replicate rings.now.group 0 ++ exponents.now, 1) ∷ [])) }
+    ensures value { IfOk result (IsMonomialOf rings.now exponents.now) }
 {
     let mut list = vec![in alloc; 0; rings.group as usize]?;
     list.extend_from_slice(exponents)?;
@@ -75,11 +73,9 @@ pub(crate) fn relation_polynomial(
     relation: &RelationItem<KPoly>,
 ) -> Result<Option<KPoly>, NoMemory>
     requires { is_relation_in rings.now relation.now ≡ true }
-    ensures fits { (s : System) → AreRingsOf s rings.now →
-        IfOk result (λ o. is_some o ≡ relation_fits s (relation_item_by (λ f. f) relation.now)) }
+    ensures fits { InRings rings.now (λ s. IfOk result (λ o. is_some o ≡ relation_fits s (relation_item_by (λ f. f) relation.now))) }
     ensures element { IfOk result (λ o. IfSome o (λ r. IsTrue (is_stored rings.now.graph.coeffs rings.now.graph.vars r))) }
-    ensures value { (s : System) → AreRingsOf s rings.now →
-        IfOk result (λ o. IfSome o (λ r. IsSame (poly_ops (residue_ops s.p)) r (relation_of s (relation_item_by (λ f. f) relation.now)))) }
+    ensures value { InRings rings.now (λ s. IfOk result (λ o. IfSome o (IsRelationPoly s relation.now))) }
 {
     let Some(lead) = multiple(alloc, rings, relation.a.as_slice(), &relation.d)? else {
         return Ok(None);

@@ -5,15 +5,14 @@ ghost use Rattle.std.specs.List.{list_all};
 ghost use Rattle.std.specs.Ordering.{is_lt};
 ghost use Rattle.rinv_algebra.specs.Monomial.{total_degree, max_degree};
 ghost use Rattle.rinv_algebra.specs.Order.{grevlex};
-ghost use Rattle.rinv_defs.specs.Certificate.{Certificate};
 ghost use Rattle.rinv_defs.specs.Format.{format_failure};
-ghost use Rattle.rinv_defs.specs.RelationConditions.{relation_is_shown, relations_failure};
+ghost use Rattle.rinv_defs.specs.RelationConditions.{relations_failure};
 ghost use Rattle.rinv_cert.specs.Seen.{plain, relation_item_by};
-ghost use Rattle.rinv_form.specs.Sized.{IsSized};
 ghost use Rattle.rinv_form.specs.Forms.{is_stored_fraction};
 ghost use Rattle.rinv_form.specs.ItemForms.{is_relation_form};
 ghost use Rattle.rinv_identities.specs.Graphs.{IsGraph};
 ghost use Rattle.rinv_basis_check.specs.Relations.{tails_are};
+ghost use Rattle.rinv_basis_check.specs.Whichever.{OfSized, OnGraph, is_shown_in};
 
 use crate::relation::relation_polynomial;
 use crate::rings::{RelationRings, relation_rings};
@@ -57,8 +56,7 @@ fn are_tails(
     requires space { rings.now.space.vars ≡ sizes.now.space }
     requires many { length fractions.now ≡ sizes.now.fractions }
     requires fractions { IsTrue (list_all (is_stored_fraction sizes.now.field sizes.now.space) fractions.now) }
-    ensures { (c : Certificate) → IsSized c sizes.now → fractions.now ≡ c.fractions →
-        IfOk result (λ b. b ≡ tails_are c (relation_item_by (λ f. f) relation.now)) }
+    ensures { OfSized sizes.now fractions.now (λ c. IfOk result (λ b. b ≡ tails_are c (relation_item_by (λ f. f) relation.now))) }
 {
     let tail = relation.tail.as_slice();
     'tail: for k in 0..tail.len() {
@@ -96,9 +94,7 @@ fn relation_is_shown(
     requires ring { graph.now.ring.vars ≡ sizes.now.graph }
     requires whole { graph.now.whole.vars ≡ sizes.now.whole }
     requires ideal { length graph.now.ideal.items ≡ sizes.now.ideal }
-    ensures { (c : Certificate) → IsSized c sizes.now → fractions.now ≡ c.fractions →
-        IsGraph c.system graph.now →
-        IfOk result (λ b. b ≡ relation_is_shown c (relation_item_by (λ f. f) relation.now)) }
+    ensures { OnGraph sizes.now fractions.now graph.now (λ c. IfOk result (λ b. b ≡ is_shown_in c relation.now)) }
 {
     let rings = relation_rings(sizes);
     let Some(polynomial) = relation_polynomial(alloc, &rings, relation)? else {

@@ -1,16 +1,16 @@
 //! What the coefficient of a relation is: a constant, or one of the fractions.
 
-ghost use Rattle.std.specs.Prelude.{◌≡◌, ◌<◌, ℕ, length, IsTrue, IfOk, IfSome, is_some, true};
+ghost use Rattle.std.specs.Prelude.{◌≡◌, ◌<◌, length, IsTrue, IfOk, IfSome, is_some, true};
 ghost use Rattle.std.specs.List.{list_all};
-ghost use Rattle.rinv_algebra.specs.Ring.{IsSame};
 ghost use Rattle.rinv_algebra.specs.Residue.{residue_ops};
-ghost use Rattle.rinv_algebra.specs.Polynomial.{poly_ops, product, same};
+ghost use Rattle.rinv_algebra.specs.Polynomial.{same};
 ghost use Rattle.rinv_algebra.specs.Fits.{product_fits};
 ghost use Rattle.rinv_defs.specs.Certificate.{Certificate, to_constant, to_generator};
-ghost use Rattle.rinv_defs.specs.RelationConditions.{fraction_at, is_tied_to};
+ghost use Rattle.rinv_defs.specs.RelationConditions.{is_tied_to};
 ghost use Rattle.rinv_cert.specs.Seen.{tied_of};
 ghost use Rattle.rinv_form.specs.Forms.{is_stored, is_stored_fraction};
 ghost use Rattle.rinv_basis_check.specs.Relations.{is_tied_among};
+ghost use Rattle.rinv_basis_check.specs.Whichever.{IsProduct, OfFraction, OfFractions};
 
 use rinv_cert::Tied;
 use rinv_poly::{KPoly, PolyRing};
@@ -28,7 +28,7 @@ fn fitting(
     requires right { IsTrue (is_stored ring.now.coeffs ring.now.vars b.now) }
     ensures fits { IfOk result (λ o. is_some o ≡ product_fits (residue_ops ring.now.coeffs) a.now b.now) }
     ensures element { IfOk result (λ o. IfSome o (λ r. IsTrue (is_stored ring.now.coeffs ring.now.vars r))) }
-    ensures value { IfOk result (λ o. IfSome o (λ r. IsSame (poly_ops (residue_ops ring.now.coeffs)) r (product (residue_ops ring.now.coeffs) a.now b.now))) }
+    ensures value { IfOk result (λ o. IfSome o (IsProduct ring.now.coeffs a.now b.now)) }
 {
     match ring.product(alloc, a, b) {
         Ok(product) => Ok(Some(product)),
@@ -82,9 +82,7 @@ fn is_fraction(
     requires denominator { IsTrue (is_stored ring.now.coeffs ring.now.vars d.now) }
     requires numerator { IsTrue (is_stored ring.now.coeffs ring.now.vars u.now) }
     requires fraction { IsTrue (is_stored_fraction ring.now.coeffs ring.now.vars fraction.now) }
-    ensures { (c : Certificate) (k : ℕ) → ring.now.coeffs ≡ c.system.p →
-        fraction.now ≡ fraction_at c k →
-        IfOk result (λ b. b ≡ is_tied_to c d.now u.now (to_generator k)) }
+    ensures { OfFraction ring.now.coeffs fraction.now (λ c k. IfOk result (λ b. b ≡ is_tied_to c d.now u.now (to_generator k))) }
 {
     let Some(left) = fitting(alloc, ring, u, &fraction.1)? else {
         return Ok(false);
@@ -109,8 +107,7 @@ pub(crate) fn is_tied_to(
     requires numerator { IsTrue (is_stored ring.now.coeffs ring.now.vars u.now) }
     requires fractions { IsTrue (list_all (is_stored_fraction ring.now.coeffs ring.now.vars) fractions.now) }
     requires tied { is_tied_among ring.now.coeffs (length fractions.now) tied.now ≡ true }
-    ensures { (c : Certificate) → ring.now.coeffs ≡ c.system.p → fractions.now ≡ c.fractions →
-        IfOk result (λ b. b ≡ is_tied_to c d.now u.now (tied_of tied.now)) }
+    ensures { OfFractions ring.now.coeffs fractions.now (λ c. IfOk result (λ b. b ≡ is_tied_to c d.now u.now (tied_of tied.now))) }
 {
     match tied {
         Tied::Constant { v } => {

@@ -1,3 +1,4 @@
 pub mod Changes
 pub mod Asked
 pub mod Cofactors
+pub mod Changing

@@ -2,18 +2,15 @@
 
 ghost use Rattle.std.specs.Prelude.{◌≡◌, ◌+◌, IfOk};
 ghost use Rattle.std.specs.Result.{MatchResult};
-ghost use Rattle.rinv_algebra.specs.Residue.{residue_ops};
-ghost use Rattle.rinv_algebra.specs.Polynomial.{difference, past, product};
-ghost use Rattle.rinv_defs.specs.System.{Poly, System as Acting, group_count, space_count};
+ghost use Rattle.rinv_algebra.specs.Polynomial.{past};
+ghost use Rattle.rinv_defs.specs.System.{group_count, space_count};
 ghost use Rattle.rinv_defs.specs.SystemForm.{IsSystem};
-ghost use Rattle.rinv_defs.specs.Invariant.{at_moved_point, change};
 ghost use Rattle.rinv_ring.specs.Fault.{DegreesMeet};
-ghost use Rattle.rinv_poly.specs.Faults.{MonomialsMeet};
 ghost use Rattle.rinv_frac.specs.Fractions.{IsPart, IsStored};
 ghost use Rattle.rinv_parts.specs.Points.{IsStoredIn};
-ghost use Rattle.rinv_parts.specs.Substitutions.{TakenMeets};
 ghost use Rattle.rinv_change.specs.Asked.{IsChangeRing};
 ghost use Rattle.rinv_change.specs.Changes.{ChangingMeets, change_count};
+ghost use Rattle.rinv_change.specs.Changing.{IsAtMoved, IsMinus, IsStoredChange, IsTimes, MovedMeets, OfStored, TimesStops};
 
 use rinv_frac::{Frac, FracRing};
 use rinv_poly::{KPoly, PolyRing};
@@ -39,7 +36,7 @@ fn at_moved_point(
 ) -> Result<KPoly, RingFault>
     requires ring { IsChangeRing system.now.system ring.now.coeffs ring.now.vars }
     requires polynomial { IsPart system.now.system.p (space_count system.now.system) f.now }
-    ensures { MatchResult result (IsStoredIn system.now.system.p (change_count system.now.system) (at_moved_point system.now.system f.now)) (DegreesMeet (TakenMeets system.now.system.p (change_count system.now.system) system.now.system.action f.now)) }
+    ensures { MatchResult result (IsAtMoved system.now.system f.now) (DegreesMeet (MovedMeets system.now.system f.now)) }
 {
     let from = PolyRing::new(system.field, system.space.len());
     substitute_over_field(&from, alloc, f, ring, &system.action)
@@ -64,7 +61,7 @@ fn behind_group(
 fn product(alloc: Global, ring: &PolyRing<Gf>, a: &KPoly, b: &KPoly) -> Result<KPoly, RingFault>
     requires left { IsPart ring.now.coeffs ring.now.vars a.now }
     requires right { IsPart ring.now.coeffs ring.now.vars b.now }
-    ensures { (s : Acting) (f g : Poly) → IsChangeRing s ring.now.coeffs ring.now.vars → IsStoredIn s.p (change_count s) f a.now → IsStoredIn s.p (change_count s) g b.now → MatchResult result (IsStoredIn s.p (change_count s) (product (residue_ops s.p) f g)) (DegreesMeet (MonomialsMeet (residue_ops s.p) f g)) }
+    ensures { OfStored ring.now.coeffs ring.now.vars a.now b.now (λ s f g. MatchResult result (IsTimes s f g) (TimesStops s f g)) }
 {
     ring.mul(alloc, a, b)
 }
@@ -73,7 +70,7 @@ fn product(alloc: Global, ring: &PolyRing<Gf>, a: &KPoly, b: &KPoly) -> Result<K
 fn difference(alloc: Global, ring: &PolyRing<Gf>, a: &KPoly, b: &KPoly) -> Result<KPoly, NoMemory>
     requires left { IsPart ring.now.coeffs ring.now.vars a.now }
     requires right { IsPart ring.now.coeffs ring.now.vars b.now }
-    ensures { (s : Acting) (f g : Poly) → IsChangeRing s ring.now.coeffs ring.now.vars → IsStoredIn s.p (change_count s) f a.now → IsStoredIn s.p (change_count s) g b.now → IfOk result (IsStoredIn s.p (change_count s) (difference (residue_ops s.p) f g)) }
+    ensures { OfStored ring.now.coeffs ring.now.vars a.now b.now (λ s f g. IfOk result (IsMinus s f g)) }
 {
     // Differences of numbers modulo a prime are refused for memory alone.
     let Ok(difference) = ring.sub(alloc, a, b) else {
@@ -91,7 +88,7 @@ pub(crate) fn change_of(
 ) -> Result<KPoly, RingFault>
     requires ring { IsChangeRing system.now.system ring.now.coeffs ring.now.vars }
     requires fraction { IsStored system.now.system.p (space_count system.now.system) f.now }
-    ensures { MatchResult result (IsStoredIn system.now.system.p (change_count system.now.system) (change system.now.system f.now)) (DegreesMeet (ChangingMeets system.now.system f.now)) }
+    ensures { MatchResult result (IsStoredChange system.now.system f.now) (DegreesMeet (ChangingMeets system.now.system f.now)) }
 {
     let fractions = FracRing::new(PolyRing::new(system.field, system.space.len()));
     let num = fractions.num(f);

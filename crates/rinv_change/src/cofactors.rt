@@ -1,25 +1,21 @@
 //! The cofactors that prove a fraction invariant.
 
-ghost use Rattle.std.specs.Prelude.{◌≡◌, ◌<◌, ◌≤◌, ℕ, [], map, length, get_or, All, IfOk, IfErr};
-ghost use Rattle.std.specs.List.{AllZip};
+ghost use Rattle.std.specs.Prelude.{◌≡◌, ◌<◌, ◌≤◌, map, length, All, IfOk, IfErr};
 ghost use Rattle.std.specs.Result.{MatchResult};
-ghost use Rattle.rinv_algebra.specs.Ring.{IsSame};
 ghost use Rattle.rinv_algebra.specs.Residue.{residue_ops};
-ghost use Rattle.rinv_algebra.specs.Polynomial.{poly_ops};
-ghost use Rattle.rinv_algebra.specs.Ideal.{combination};
 ghost use Rattle.rinv_groebner.specs.Division.{AreSame};
 ghost use Rattle.rinv_defs.specs.System.{group_count, space_count};
 ghost use Rattle.rinv_defs.specs.SystemForm.{IsSystem};
 ghost use Rattle.rinv_defs.specs.Invariant.{IsInvariant};
 ghost use Rattle.rinv_ring.specs.Fault.{DegreesMeet};
 ghost use Rattle.rinv_frac.specs.Fractions.{IsStored};
-ghost use Rattle.rinv_cofactors.specs.Combining.{column};
 ghost use Rattle.rinv_parts.specs.Points.{ArePolynomials};
 ghost use Rattle.rinv_laws.specs.Group.{IsGroupBasis};
-ghost use Rattle.rinv_laws.specs.Proofs.{BasisMeets, KeepCofactors, ProductsMeet, chosen};
+ghost use Rattle.rinv_laws.specs.Proofs.{BasisMeets, ProductsMeet};
 ghost use Rattle.rinv_change.specs.Asked.{IsChangeRing};
 ghost use Rattle.rinv_change.specs.Changes.{ChangeMeets, change_count};
 ghost use Rattle.rinv_change.specs.Cofactors.{AreQuotientsOf, AreWideCofactors, ProofMeets, ProvesInvariance};
+ghost use Rattle.rinv_change.specs.Changing.{AreChosen, AreCombined, KeepChosen};
 
 use crate::asked::asked_of;
 use crate::changing::change_ring;
@@ -75,7 +71,7 @@ fn widened_lists(
     requires polynomials { All (λ us. ArePolynomials from.now.coeffs from.now.vars us.items) lists.now }
     requires places { All (λ k. k < length lists.now) places.now }
     ensures normal { IfOk result (λ r. All (λ us. ArePolynomials to.now.coeffs to.now.vars us.items) r.items) }
-    ensures value { IfOk result (λ r. AllZip (AreSame (residue_ops to.now.coeffs)) (map (λ us. us.items) r.items) (chosen (map (λ us. us.items) lists.now) places.now)) }
+    ensures value { IfOk result (λ r. AreChosen to.now.coeffs (map (λ us. us.items) lists.now) places.now (map (λ us. us.items) r.items)) }
 {
     let mut wide = Vec::with_capacity(alloc, places.len())?;
     'places: for k in 0..places.len() {
@@ -95,7 +91,7 @@ fn basis_cofactors(
     requires group { IsGroupBasis system.now.system group.now.basis group.now.reduced.items }
     ensures normal { IfOk result (λ r. All (λ us. ArePolynomials system.now.system.p (group_count system.now.system) us.items) r.0.items) }
     ensures inside { IfOk result (λ r. All (λ k. k < length r.0.items) r.1.items) }
-    ensures cofactors { IfOk result (λ r. KeepCofactors system.now.system group.now.basis (chosen (map (λ us. us.items) r.0.items) r.1.items)) }
+    ensures cofactors { IfOk result (λ r. KeepChosen system.now.system group.now.basis (map (λ us. us.items) r.0.items) r.1.items) }
     ensures degree { IfErr result (DegreesMeet (BasisMeets system.now.system group.now.basis)) }
 {
     let ring = PolyRing::new(system.field, system.group.len());
@@ -167,7 +163,7 @@ pub fn sums_of_products(
     requires lengths { All (λ us. length us.items ≡ count) lists.now }
     ensures number { IfOk result (λ r. length r.items ≡ count) }
     ensures normal { IfOk result (λ r. ArePolynomials ring.now.coeffs ring.now.vars r.items) }
-    ensures rule { IfOk result (λ r. (m : ℕ) → m < count → IsSame (poly_ops (residue_ops ring.now.coeffs)) (get_or r.items m []) (combination (residue_ops ring.now.coeffs) quotients.now (column (map (λ us. us.items) lists.now) m))) }
+    ensures rule { IfOk result (λ r. AreCombined ring.now.coeffs (map (λ us. us.items) lists.now) quotients.now count r.items) }
     ensures degree { IfErr result (DegreesMeet (ProductsMeet ring.now.coeffs quotients.now (map (λ us. us.items) lists.now))) }
 {
     let mut sums = Vec::with_capacity(alloc, count)?;

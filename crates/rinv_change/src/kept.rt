@@ -1,14 +1,13 @@
 //! The kept elements of the group's basis, in the group's and then the space's variables.
 
-ghost use Rattle.std.specs.Prelude.{◌≡◌, ◌<◌, ◌≤◌, [], map, length, get_or, false, nat_lt, All, IfOk};
+ghost use Rattle.std.specs.Prelude.{◌≡◌, ◌<◌, ◌≤◌, [], map, length, get_or, false, All, IfOk};
 ghost use Rattle.rinv_algebra.specs.Residue.{residue_ops};
-ghost use Rattle.rinv_algebra.specs.Order.{grevlex};
 ghost use Rattle.rinv_algebra.specs.Polynomial.{is_zero};
 ghost use Rattle.rinv_groebner.specs.Division.{AreSame};
-ghost use Rattle.rinv_div.specs.Divisors.{AreDivisors};
 ghost use Rattle.rinv_laws.specs.Group.{IsGroupBasis};
 ghost use Rattle.rinv_parts.specs.Points.{ArePolynomials};
 ghost use Rattle.rinv_change.specs.Asked.{IsChangeRing, IsKeptBasis};
+ghost use Rattle.rinv_change.specs.Changing.{AreDivisorsOf};
 
 use rinv_buch::kept_places;
 use rinv_div::{Divisors, divisors_of};
@@ -66,7 +65,7 @@ fn chosen_basis(
     requires places { All (λ k. k < length polys.now) places.now }
     ensures normal { IfOk result (λ b. ArePolynomials ring.now.coeffs ring.now.vars b.polys.items) }
     ensures value { IfOk result (λ b. AreSame (residue_ops ring.now.coeffs) b.polys.items (map (λ k. get_or polys.now k []) places.now)) }
-    ensures divisors { IfOk result (λ b. AreDivisors (residue_ops ring.now.coeffs) (λ c. nat_lt c ring.now.coeffs) ring.now.vars grevlex b.polys.items b.divisors.list.items) }
+    ensures divisors { IfOk result (λ b. AreDivisorsOf ring.now.coeffs ring.now.vars b.polys.items b.divisors.list.items) }
 {
     let elements = chosen(alloc, from, polys, places, ring)?;
     let divisors = divisors_of(ring, alloc, &elements, &Grevlex)?;

@@ -1,9 +1,8 @@
 //! The cofactors of the laws.
 
-ghost use Rattle.std.specs.Prelude.{◌≡◌, ◌+◌, ◌*◌, ◌≤◌, ◌==◌, ◌&&◌, [], ◌∷◌, length, IfOk};
-ghost use Rattle.std.specs.List.{list_all};
-ghost use Rattle.rinv_form.specs.Forms.{kept, are_stored};
-ghost use Rattle.rinv_form.specs.LawShapes.{are_law_lists};
+ghost use Rattle.std.specs.Prelude.{◌≡◌, ◌≤◌, [], ◌∷◌, IfOk};
+ghost use Rattle.rinv_form.specs.Forms.{kept};
+ghost use Rattle.rinv_form.specs.LawShapes.{are_law_lists, action_lists, group_lists};
 
 use crate::lists::cofactors;
 use crate::sizes::Sizes;
@@ -46,7 +45,7 @@ fn law_list(
     requires points { points ≤ 3 }
     requires few { sizes.now.group ≤ 8 }
     requires ideal { sizes.now.ideal ≤ 64 }
-    ensures { IfOk result (λ o. o ≡ kept (length lists.now == parts && list_all (are_stored sizes.now.field (points * sizes.now.group) (points * sizes.now.ideal)) lists.now) lists.now) }
+    ensures { IfOk result (λ o. o ≡ group_lists sizes.now points parts lists.now) }
 {
     let vars = points * sizes.group;
     let size = points as usize * sizes.ideal;
@@ -59,7 +58,7 @@ fn action_list(alloc: Global, sizes: &Sizes, lists: &Plains) -> Result<Option<Li
     requires few_group { sizes.now.group ≤ 8 }
     requires few_space { sizes.now.space ≤ 8 }
     requires ideal { sizes.now.ideal ≤ 64 }
-    ensures { IfOk result (λ o. o ≡ kept (length lists.now == sizes.now.space && list_all (are_stored sizes.now.field (2 * sizes.now.group + sizes.now.space) (2 * sizes.now.ideal)) lists.now) lists.now) }
+    ensures { IfOk result (λ o. o ≡ action_lists sizes.now lists.now) }
 {
     let vars = 2 * sizes.group + sizes.space;
     let size = 2 * sizes.ideal;

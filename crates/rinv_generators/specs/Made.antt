@@ -24,7 +24,9 @@ use Rattle.rinv_gens.specs.declared.kinds.Findings.{Findings}
 use Rattle.rinv_gens.specs.Found.{ArePieces}
 use Rattle.rinv_generators.specs.declared.assembling.Assembled.{Assembled}
 use Rattle.rinv_generators.specs.declared.making.Made.{Made}
-use Rattle.rinv_generators.specs.Generated.{Generated, ProveLaws}
+use Rattle.rinv_generators.specs.Generated.{Generated, ProveLaws, IsGenerators}
+use Rattle.rinv_laws.specs.declared.group.GroupBasis.{GroupBasis}
+use Rattle.rinv_buch.specs.declared.kinds.Entry.{Entry as StoredEntry}
 
 -- the proofs of the laws, as lists of lists
 abbrev pub laws_of : LawProofs → List (Law × List (List Poly))
@@ -64,3 +66,15 @@ pub record IsAssembled (s : System) (group action : Found ℕ) (monic : List Rel
   pub numbered : AreNumbered s monic a.relations.items a.fractions.items
   pub proved : AllZip (ProvesInvariance s group) a.fractions.items (map (λ us. us.items) a.proofs.items)
   pub entries : journal_of a.journal.items ≡ group.journal ++ action.journal
+
+-- for each fraction a proof that it is invariant
+abbrev pub AreProofs : System → GroupBasis → List Fraction → List (List Poly) → Type 0
+AreProofs s group cs uss = AllZip (ProvesInvariance s group.basis) cs uss
+
+-- for each generator that was found
+abbrev pub AreProofsFor : System → Findings → List (List Poly) → Type 0
+AreProofsFor s found uss = AllZip (ProvesInvariance s found.group.basis) found.fractions.items uss
+
+-- where all is proved of the system that is told, what is made are generators
+abbrev pub MakesGenerators : Told → Findings → LawProofs → List (List Poly) → List StoredEntry → Made → Type 0
+MakesGenerators told found laws proofs journal made = AreProved told found (laws_of laws) proofs (journal_of journal) → IsGenerators (generated_of told made)

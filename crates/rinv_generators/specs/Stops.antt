@@ -3,7 +3,7 @@
 --   HaltsProvingLaws, HaltsProvingInvariance    the proofs of the laws halt, or those of the generators
 --   ProvingHaltsIn, WorkHaltsIn    these by their phase, and with the halts before the proofs
 --   StopsSo, NeverMissesSo, SectionStopsSo      what a stop says: with a section, without one, and told apart
-use Rattle.std.specs.Prelude.{◌≡◌, ◌⊎◌, ℕ, List, ◌++◌, ⊤}
+use Rattle.std.specs.Prelude.{◌≡◌, ◌⊎◌, ℕ, List, ◌++◌, ⊤, ◌<◌, ◌-◌, ◌^◌, ◌+◌, length}
 use Rattle.rinv_groebner.specs.Journal.{Entry}
 use Rattle.rinv_defs.specs.System.{Poly}
 use Rattle.rinv_defs.specs.Laws.{AllLawsHold}
@@ -11,6 +11,7 @@ use Rattle.rinv_defs.specs.Extended.{Relation, Misses}
 use Rattle.rinv_text.specs.Told.{Told}
 use Rattle.rinv_buch.specs.declared.kinds.Why.{Why}
 use Rattle.rinv_buch.specs.declared.kinds.Why.TheVariants.{Degree}
+use Rattle.rinv_buch.specs.declared.kinds.Why.TheVariants as why
 use Rattle.rinv_buch.specs.Kinds.{Found, journal_of}
 use Rattle.rinv_parts.specs.LawNames.{law_of}
 use Rattle.rinv_laws.specs.Faults.{TestMeets}
@@ -20,11 +21,12 @@ use Rattle.rinv_gens.specs.declared.kinds.Phase.{Phase}
 use Rattle.rinv_gens.specs.declared.kinds.Phase.TheVariants.{Group, Laws, Action, Tail}
 use Rattle.rinv_gens.specs.declared.kinds.GenStop.{GenStop}
 use Rattle.rinv_gens.specs.declared.kinds.GenStop.TheVariants as stop
-use Rattle.rinv_gens.specs.Runs.{BothEnd}
+use Rattle.rinv_gens.specs.Runs.{BothEnd, IsWithin}
 use Rattle.rinv_gens.specs.Halts.{HaltsIn, IsFalseLaw, IsMiss}
 use Rattle.rinv_generators.specs.declared.kinds.SectionStop.{SectionStop}
 use Rattle.rinv_generators.specs.declared.kinds.SectionStop.TheVariants as section
 use Rattle.rinv_generators.specs.Proving.{FractionsMeet}
+use Rattle.rinv_buch.specs.Spent.{steps_of}
 
 -- the laws hold, both runs have ended, and nothing is missed
 pub record AreRun (told : Told) (group action : Found ℕ) : Type 0 where
@@ -86,3 +88,17 @@ NeverMissesSo told stop = StopsWith told (λ d. ⊥) stop
 abbrev pub SectionStopsSo : Told → SectionStop → Type 0
 SectionStopsSo told (section.Misses d) = IsMiss told d
 SectionStopsSo told (section.Gen stop) = NeverMissesSo told stop
+
+-- ---- within the budget
+
+-- where no more pairs than these fit, a halt for them comes after so many
+abbrev pub WorkSpendsPairs : Told → Phase → List Entry → (i j : ℕ) → Type 0
+WorkSpendsPairs told phase journal i j = told.pairs < 2 ^ 32 - 1 → WorkHaltsIn told phase journal (why.Pairs i j) → length journal ≡ told.pairs
+
+-- a halt for the steps comes after so many
+abbrev pub WorkSpendsSteps : Told → Phase → List Entry → List ℕ → Type 0
+WorkSpendsSteps told phase journal m = told.steps < 2 ^ 64 - 1 → WorkHaltsIn told phase journal (why.Steps m) → (k : ℕ) × (steps_of journal + k ≡ told.steps)
+
+-- every halt comes within the budget
+abbrev pub WorkHaltsWithin : Told → Phase → List Entry → Why → Type 0
+WorkHaltsWithin told phase journal cause = told.pairs < 2 ^ 32 - 1 → told.steps < 2 ^ 64 - 1 → WorkHaltsIn told phase journal cause → IsWithin told journal

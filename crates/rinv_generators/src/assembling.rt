@@ -1,7 +1,6 @@
 //! Generators of what was found for a system already.
 
 ghost use Rattle.std.specs.Prelude.{◌≡◌, map, All, IfOk, IfErr};
-ghost use Rattle.std.specs.List.{AllZip};
 ghost use Rattle.rinv_defs.specs.System.{space_count};
 ghost use Rattle.rinv_defs.specs.SystemForm.{IsSystem};
 ghost use Rattle.rinv_defs.specs.Laws.{AllLawsHold};
@@ -9,10 +8,9 @@ ghost use Rattle.rinv_defs.specs.Extended.{Misses};
 ghost use Rattle.rinv_tails.specs.Stored.{IsStoredRelation};
 ghost use Rattle.rinv_laws.specs.Group.{IsGroupBasis};
 ghost use Rattle.rinv_action.specs.Action.{IsActionBasis};
-ghost use Rattle.rinv_change.specs.Cofactors.{ProvesInvariance};
 ghost use Rattle.rinv_coefficients.specs.Coefficients.{IsOrderedBasis};
 ghost use Rattle.rinv_generators.specs.Generated.{IsGenerators, ProveLaws};
-ghost use Rattle.rinv_generators.specs.Made.{AreNumbered, IsAssembled, laws_of};
+ghost use Rattle.rinv_generators.specs.Made.{AreNumbered, IsAssembled, laws_of, AreProofs};
 ghost use Rattle.rinv_generators.specs.Proving.{AssemblyStopsSo};
 
 use crate::kinds::Generators;
@@ -154,7 +152,7 @@ fn proofs_of(
     requires hold { AllLawsHold system.now.system }
     requires monic { IsOrderedBasis system.now.system monic.now }
     requires numbered { AreNumbered system.now.system monic.now numbered.now.relations.items numbered.now.fractions.items }
-    ensures proofs { IfOk result (λ r. AllZip (ProvesInvariance system.now.system group.now.basis) numbered.now.fractions.items (map (λ us. us.items) r.items)) }
+    ensures proofs { IfOk result (λ r. AreProofs system.now.system group.now numbered.now.fractions.items (map (λ us. us.items) r.items)) }
     ensures stop { IfErr result (AssemblyStopsSo system.now.system group.now.basis action.now monic.now) }
 {
     match generator_proofs(alloc, system, group, action, &numbered.fractions) {

@@ -1,15 +1,12 @@
 //! All that is made for a system on the way to its generators.
 
 ghost use Rattle.std.specs.Prelude.{◌≡◌, map, IfOk, IfErr};
-ghost use Rattle.std.specs.List.{AllZip};
 ghost use Rattle.rinv_defs.specs.SystemForm.{IsSystem};
 ghost use Rattle.rinv_text.specs.Told.{Told};
-ghost use Rattle.rinv_buch.specs.Kinds.{journal_of};
-ghost use Rattle.rinv_change.specs.Cofactors.{ProvesInvariance};
 ghost use Rattle.rinv_gens.specs.Found.{ArePieces};
 ghost use Rattle.rinv_gens.specs.Runs.{BothEnd};
 ghost use Rattle.rinv_generators.specs.Generated.{IsGenerators, ProveLaws};
-ghost use Rattle.rinv_generators.specs.Made.{AreProved, generated_of, laws_of};
+ghost use Rattle.rinv_generators.specs.Made.{generated_of, laws_of, AreProofsFor, MakesGenerators};
 ghost use Rattle.rinv_generators.specs.Stops.{StopsSo};
 
 use crate::kinds::Generators;
@@ -86,7 +83,7 @@ fn law_proofs(alloc: Global, system: &System, found: &Findings) -> Result<LawPro
 fn proofs_of(alloc: Global, system: &System, found: &Findings) -> Result<Vec<Vec<KPoly>>, GenStop>
     requires system { IsSystem system.now.system }
     requires pieces { ArePieces system.now found.now }
-    ensures proofs { IfOk result (λ r. AllZip (ProvesInvariance system.now.system found.now.group.basis) found.now.fractions.items (map (λ us. us.items) r.items)) }
+    ensures proofs { IfOk result (λ r. AreProofsFor system.now.system found.now (map (λ us. us.items) r.items)) }
     ensures stop { IfErr result (StopsSo system.now) }
 {
     match generator_proofs(alloc, system, &found.group, &found.action, &found.fractions) {
@@ -104,7 +101,7 @@ fn put_together(
 ) -> Made
     ensures group { result.group ≡ found.group }
     ensures action { result.action ≡ found.action }
-    ensures generated { (told : Told) → AreProved told found (laws_of laws) (map (λ us. us.items) proofs.items) (journal_of journal.items) → IsGenerators (generated_of told result) }
+    ensures generated { (told : Told) → MakesGenerators told found laws (map (λ us. us.items) proofs.items) journal.items result }
 {
     let Findings {
         group,

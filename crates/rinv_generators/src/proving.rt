@@ -1,7 +1,6 @@
 //! The proofs that generators are invariant, and what is answered where they halt.
 
 ghost use Rattle.std.specs.Prelude.{◌≡◌, ◌++◌, map, All, IfOk, IfErr};
-ghost use Rattle.std.specs.List.{AllZip};
 ghost use Rattle.rinv_defs.specs.System.{space_count};
 ghost use Rattle.rinv_defs.specs.SystemForm.{IsSystem};
 ghost use Rattle.rinv_defs.specs.Invariant.{IsInvariant};
@@ -9,8 +8,8 @@ ghost use Rattle.rinv_ring.specs.Fault.{DegreesMeet};
 ghost use Rattle.rinv_frac.specs.Fractions.{IsStored};
 ghost use Rattle.rinv_buch.specs.Kinds.{journal_of};
 ghost use Rattle.rinv_laws.specs.Group.{IsGroupBasis};
-ghost use Rattle.rinv_change.specs.Cofactors.{ProvesInvariance};
 ghost use Rattle.rinv_generators.specs.Proving.{AreDegrees, FractionsMeet, HaltsAfter, InvarianceStopsSo};
+ghost use Rattle.rinv_generators.specs.Made.{AreProofs};
 
 use rinv_buch::kinds::Basis;
 use rinv_buch::{Entry, Why};
@@ -70,7 +69,7 @@ fn invariance_proofs(
     requires group { IsGroupBasis system.now.system group.now.basis group.now.reduced.items }
     requires stored { All (IsStored system.now.system.p (space_count system.now.system)) fractions.now }
     requires invariant { All (IsInvariant system.now.system) fractions.now }
-    ensures proofs { IfOk result (λ r. AllZip (ProvesInvariance system.now.system group.now.basis) fractions.now (map (λ us. us.items) r.items)) }
+    ensures proofs { IfOk result (λ r. AreProofs system.now.system group.now fractions.now (map (λ us. us.items) r.items)) }
     ensures degree { IfErr result (DegreesMeet (FractionsMeet system.now.system group.now.basis fractions.now)) }
 {
     let mut proofs = Vec::with_capacity(alloc, fractions.len())?;
@@ -98,7 +97,7 @@ pub(crate) fn generator_proofs(
     requires group { IsGroupBasis system.now.system group.now.basis group.now.reduced.items }
     requires stored { All (IsStored system.now.system.p (space_count system.now.system)) fractions.now }
     requires invariant { All (IsInvariant system.now.system) fractions.now }
-    ensures proofs { IfOk result (λ r. AllZip (ProvesInvariance system.now.system group.now.basis) fractions.now (map (λ us. us.items) r.items)) }
+    ensures proofs { IfOk result (λ r. AreProofs system.now.system group.now fractions.now (map (λ us. us.items) r.items)) }
     ensures stop { IfErr result (InvarianceStopsSo system.now.system group.now.basis action.now fractions.now) }
 {
     match invariance_proofs(alloc, system, group, fractions) {

@@ -1,5 +1,5 @@
 -- Why there are no generators: the phase, the journal so far and the cause.
-use Rattle.std.specs.Prelude.{◌≡◌, ◌⊎◌, ℕ, List, ◌++◌, nat_lt, ⊤}
+use Rattle.std.specs.Prelude.{◌≡◌, ◌⊎◌, ℕ, List, ◌++◌, nat_lt, ⊤, ◌<◌, ◌-◌, ◌^◌, ◌+◌, length}
 use Rattle.rinv_algebra.specs.Residue.{residue_ops}
 use Rattle.rinv_algebra.specs.Normal.{IsNormal}
 use Rattle.rinv_groebner.specs.Journal.{Entry}
@@ -10,8 +10,9 @@ use Rattle.rinv_text.specs.Told.{Told}
 use Rattle.rinv_div.specs.declared.budget.Budget.{Budget}
 use Rattle.rinv_buch.specs.declared.kinds.Why.{Why}
 use Rattle.rinv_buch.specs.declared.kinds.Why.TheVariants.{Degree}
+use Rattle.rinv_buch.specs.declared.kinds.Why.TheVariants as why
 use Rattle.rinv_buch.specs.Kinds.{Found, Halted, journal_of}
-use Rattle.rinv_buch.specs.Spent.{IsKept}
+use Rattle.rinv_buch.specs.Spent.{IsKept, steps_of}
 use Rattle.rinv_parts.specs.LawNames.{law_of, variables_of}
 use Rattle.rinv_reduction.specs.Localised.{IsCut}
 use Rattle.rinv_laws.specs.Group.{HaltsInGroup}
@@ -23,7 +24,7 @@ use Rattle.rinv_gens.specs.declared.kinds.Phase.{Phase}
 use Rattle.rinv_gens.specs.declared.kinds.Phase.TheVariants.{Group, Laws, Action, Tail}
 use Rattle.rinv_gens.specs.declared.kinds.GenStop.{GenStop}
 use Rattle.rinv_gens.specs.declared.kinds.GenStop.TheVariants as stop
-use Rattle.rinv_gens.specs.Runs.{budget_of, GroupEnds, BothEnd}
+use Rattle.rinv_gens.specs.Runs.{budget_of, GroupEnds, BothEnd, IsWithin}
 use Rattle.rinv_gens.specs.Relations.{ReductionMeets}
 use Rattle.rinv_gens.specs.Numbering.{NumberingMeets}
 
@@ -114,3 +115,17 @@ GenStopsSo told (stop.Law f) = IsFalseLaw told (law_of f.law) f.part f.rest
 GenStopsSo told (stop.Missed d) = IsMiss told d
 GenStopsSo told (stop.Incomplete phase journal why) = HaltsIn told phase (journal_of journal.items) why
 GenStopsSo told stop.NoMemory = ⊤
+
+-- ---- within the budget
+
+-- where no more pairs than these fit, a halt for them comes after so many
+abbrev pub SpendsPairs : Told → Phase → List Entry → (i j : ℕ) → Type 0
+SpendsPairs told phase journal i j = told.pairs < 2 ^ 32 - 1 → HaltsIn told phase journal (why.Pairs i j) → length journal ≡ told.pairs
+
+-- a halt for the steps comes after so many
+abbrev pub SpendsSteps : Told → Phase → List Entry → List ℕ → Type 0
+SpendsSteps told phase journal m = told.steps < 2 ^ 64 - 1 → HaltsIn told phase journal (why.Steps m) → (k : ℕ) × (steps_of journal + k ≡ told.steps)
+
+-- every halt comes within the budget
+abbrev pub HaltsWithin : Told → Phase → List Entry → Why → Type 0
+HaltsWithin told phase journal cause = told.pairs < 2 ^ 32 - 1 → told.steps < 2 ^ 64 - 1 → HaltsIn told phase journal cause → IsWithin told journal

@@ -12,3 +12,4 @@ pub mod Numbering
 pub mod Found
 pub mod Halts
 pub mod Stopped
+pub mod StopsAfter

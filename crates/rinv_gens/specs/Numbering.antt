@@ -2,7 +2,7 @@
 --   with_new              a fraction more
 --   ComparisonMeets       the degrees that the comparison of two fractions meets
 --   AmongMeets, WalkMeets, NumberingMeets    so of a fraction and earlier generators, in a list, in the relations
-use Rattle.std.specs.Prelude.{◌≡◌, ◌⊎◌, ◌||◌, ℕ, List, [], ◌∷◌, ◌++◌, Contains, if◌then◌else◌}
+use Rattle.std.specs.Prelude.{◌≡◌, ◌⊎◌, ◌||◌, ℕ, List, [], ◌∷◌, ◌++◌, map, Contains, if◌then◌else◌, true, get_or}
 use Rattle.rinv_algebra.specs.Residue.{residue_ops}
 use Rattle.rinv_poly.specs.Faults.{MonomialsMeet}
 use Rattle.rinv_defs.specs.System.{System}
@@ -10,6 +10,9 @@ use Rattle.rinv_defs.specs.Invariant.{Fraction}
 use Rattle.rinv_defs.specs.Extended.{Relation}
 use Rattle.rinv_coefficients.specs.Coefficients.{coefficients, is_among, is_constant, new_values}
 use Rattle.rinv_gens.specs.Relations.{AreReduced}
+use Rattle.rinv_algebra.specs.Ring.{IsSame}
+use Rattle.rinv_algebra.specs.Polynomial.{constant}
+use Rattle.rinv_defs.specs.Generators.{over_1, rational_ops}
 
 -- the generators, with the fraction where its value is new
 abbrev pub with_new : ℕ → List Fraction → Fraction → List Fraction
@@ -36,3 +39,15 @@ pub record NumberingMeets (s : System) (x y : ℕ) : Type 0 where
   pub relations : List Relation
   pub are : AreReduced s relations
   pub meets : WalkMeets s.p [] (coefficients relations) x y
+
+-- the fraction c is the number v
+abbrev pub IsNumber : ℕ → Fraction → ℕ → Type 0
+IsNumber p c v = IsSame (rational_ops p) c (over_1 p (constant (residue_ops p) v))
+
+-- the generators, with the coefficients of a relation whose values are new
+abbrev pub with_values : ℕ → List Fraction → Relation → List Fraction
+with_values p cs r = cs ++ new_values p cs (map (λ t. t.1) r.tail)
+
+-- the generator at place k has the value of c
+abbrev pub HasSameValue : ℕ → List Fraction → ℕ → Fraction → Type 0
+HasSameValue p cs k c = (rational_ops p).same (get_or cs k c) c ≡ true

@@ -3,10 +3,10 @@
 ghost use Rattle.std.specs.Prelude.{◌≡◌, ◌<◌, false, length, nat_lt, IsTrue, IfOk, IfSome, IfNone};
 ghost use Rattle.rinv_algebra.specs.Ring.{IsSame};
 ghost use Rattle.rinv_algebra.specs.Residue.{residue_ops};
-ghost use Rattle.rinv_algebra.specs.Polynomial.{coefficient, constant, poly_ops, scale};
-ghost use Rattle.rinv_defs.specs.Generators.{over_1, rational_ops};
+ghost use Rattle.rinv_algebra.specs.Polynomial.{coefficient, poly_ops, scale};
 ghost use Rattle.rinv_frac.specs.Fractions.{IsPart, IsStored};
 ghost use Rattle.rinv_coefficients.specs.Coefficients.{is_constant};
+ghost use Rattle.rinv_gens.specs.Numbering.{IsNumber};
 
 use crate::comparing::are_same;
 use rinv_buch::leading_term;
@@ -26,7 +26,7 @@ pub(crate) fn constant_of(
 ) -> Result<Option<u32>, NoMemory>
     requires { IsStored field.now.base.coeffs field.now.base.vars c.now }
     ensures element { IfOk result (λ o. IfSome o (λ v. v < field.now.base.coeffs)) }
-    ensures value { IfOk result (λ o. IfSome o (λ v. IsSame (rational_ops field.now.base.coeffs) c.now (over_1 field.now.base.coeffs (constant (residue_ops field.now.base.coeffs) v)))) }
+    ensures value { IfOk result (λ o. IfSome o (IsNumber field.now.base.coeffs c.now)) }
     ensures none { IfOk result (λ o. IfNone o (is_constant field.now.base.coeffs c.now ≡ false)) }
 {
     let ring = field.base();

@@ -7,7 +7,8 @@ ghost use Rattle.rinv_text.specs.Told.{Told};
 ghost use Rattle.rinv_gens.specs.Found.{ArePieces};
 ghost use Rattle.rinv_gens.specs.Halts.{GenStopsSo};
 ghost use Rattle.rinv_gens.specs.Runs.{BothEnd};
-ghost use Rattle.rinv_gens.specs.Stopped.{HaltsAfterRuns, RelationsStopSo};
+ghost use Rattle.rinv_gens.specs.Stopped.{HaltsAfterRuns};
+ghost use Rattle.rinv_gens.specs.StopsAfter.{TellsStop};
 
 use crate::kinds::{Findings, GenStop, Phase};
 use crate::numbering::Numbered;
@@ -59,7 +60,7 @@ fn put_together(runs: Runs, related: Related) -> Findings
 
 // The stop, with the entries of both runs where it has degrees.
 fn stopped(runs: Runs, stop: RelationStop) -> GenStop
-    ensures { (told : Told) → BothEnd told runs.group.basis runs.action → AllLawsHold told.system → RelationsStopSo told.system runs.action stop → GenStopsSo told result }
+    ensures { (told : Told) → BothEnd told runs.group.basis runs.action → AllLawsHold told.system → TellsStop told runs.action stop result }
 {
     match stop {
         RelationStop::Missed(element) => GenStop::Missed(element),

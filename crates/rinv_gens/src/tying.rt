@@ -1,13 +1,12 @@
 //! The coefficients of a relation, tied to numbers and to generators; new values become generators.
 
-ghost use Rattle.std.specs.Prelude.{◌≡◌, ◌<◌, ◌++◌, true, false, length, map, get_or, All, IfOk, IfErr, IfSome, IfNone, OnOk};
-ghost use Rattle.rinv_defs.specs.Generators.{rational_ops};
+ghost use Rattle.std.specs.Prelude.{◌≡◌, ◌<◌, false, length, map, All, IfOk, IfErr, IfSome, IfNone, OnOk};
 ghost use Rattle.rinv_ring.specs.Fault.{DegreesMeet};
 ghost use Rattle.rinv_frac.specs.Fractions.{IsStored};
 ghost use Rattle.rinv_tails.specs.Stored.{IsStoredRelation};
-ghost use Rattle.rinv_coefficients.specs.Coefficients.{is_among, is_constant, new_values};
+ghost use Rattle.rinv_coefficients.specs.Coefficients.{is_among, is_constant};
 ghost use Rattle.rinv_coefficients.specs.Ties.{HasValueOf, Ties};
-ghost use Rattle.rinv_gens.specs.Numbering.{AmongMeets, WalkMeets, with_new};
+ghost use Rattle.rinv_gens.specs.Numbering.{AmongMeets, WalkMeets, with_new, HasSameValue, with_values};
 ghost use Rattle.rinv_gens.specs.Symbols.{tied_of};
 
 use crate::comparing::have_same_value;
@@ -27,7 +26,7 @@ pub(crate) fn tied(
 ) -> Result<Relation, RingFault>
     requires relation { IsStoredRelation field.now.base.coeffs field.now.base.vars relation.now }
     requires earlier { All (IsStored field.now.base.coeffs field.now.base.vars) fractions.old.items }
-    ensures fractions { OnOk result (fractions.new.items ≡ fractions.old.items ++ new_values field.now.base.coeffs fractions.old.items (map (λ t. t.1) relation.now.tail)) }
+    ensures fractions { OnOk result (fractions.new.items ≡ with_values field.now.base.coeffs fractions.old.items relation.now) }
     ensures stored { OnOk result (All (IsStored field.now.base.coeffs field.now.base.vars) fractions.new.items) }
     ensures ties { IfOk result (λ q. Ties field.now.base.coeffs fractions.new.items q relation.now) }
     ensures degree { IfErr result (DegreesMeet (WalkMeets field.now.base.coeffs fractions.old.items (map (λ t. t.1) relation.now.tail))) }
@@ -102,7 +101,7 @@ fn place_of(
     requires fraction { IsStored field.now.base.coeffs field.now.base.vars c.now }
     requires earlier { All (IsStored field.now.base.coeffs field.now.base.vars) fractions.now }
     ensures inside { IfOk result (λ o. IfSome o (λ k. k < length fractions.now)) }
-    ensures same { IfOk result (λ o. IfSome o (λ k. (rational_ops field.now.base.coeffs).same (get_or fractions.now k c.now) c.now ≡ true)) }
+    ensures same { IfOk result (λ o. IfSome o (λ k. HasSameValue field.now.base.coeffs fractions.now k c.now)) }
     ensures none { IfOk result (λ o. IfNone o (is_among field.now.base.coeffs fractions.now c.now ≡ false)) }
     ensures degree { IfErr result (DegreesMeet (AmongMeets field.now.base.coeffs fractions.now c.now)) }
 {

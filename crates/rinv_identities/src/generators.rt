@@ -1,11 +1,10 @@
 //! The generators of the action's ideal: the group's ideal, and Z1 - g1, Z2 - g2 and so on.
 
-ghost use Rattle.std.specs.Prelude.{◌≡◌, ◌+◌, ◌*◌, ◌++◌, None, IfOk, length};
-ghost use Rattle.std.specs.List.{range_with_len};
+ghost use Rattle.std.specs.Prelude.{◌≡◌, ◌+◌, ◌*◌, None, IfOk};
 ghost use Rattle.rinv_defs.specs.Format.{format_failure};
 ghost use Rattle.rinv_defs.specs.Extended.{graph};
 ghost use Rattle.rinv_cert.specs.Seen.{plain};
-ghost use Rattle.rinv_parts.specs.Points.{AreStored};
+ghost use Rattle.rinv_identities.specs.Stored.{AreInputsStored, graph_places};
 
 use crate::ideals::widened_ideal;
 use rinv_cert::CertificateOf;
@@ -19,7 +18,7 @@ use std::alloc::Global;
 // The places of the group's variables, and of the space's behind Z.
 fn places_around(alloc: Global, sizes: &Sizes) -> Result<Vec<u32>, NoMemory>
     requires { sizes.now.graph ≡ sizes.now.group + 2 * sizes.now.space }
-    ensures { IfOk result (λ r. r.items ≡ range_with_len 0 sizes.now.group ++ range_with_len (sizes.now.group + sizes.now.space) sizes.now.space) }
+    ensures { IfOk result (λ r. r.items ≡ graph_places sizes.now) }
 {
     let mut places = Vec::new(alloc);
     'group: for k in 0..sizes.group {
@@ -38,7 +37,7 @@ pub fn action_generators(
     stored: &CertificateOf<KPoly>,
 ) -> Result<Vec<KPoly>, NoMemory>
     requires { format_failure (plain stored.now) ≡ None }
-    ensures { IfOk result (λ r. AreStored (plain stored.now).system.p (length (plain stored.now).system.group + 2 * length (plain stored.now).system.space) ((plain stored.now).system.ideal ++ graph (plain stored.now).system) r.items) }
+    ensures { IfOk result (λ r. AreInputsStored (plain stored.now).system r.items) }
 {
     let sizes = sizes_in(stored);
     let ring = PolyRing::new(sizes.field, sizes.graph);

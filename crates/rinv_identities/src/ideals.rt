@@ -1,10 +1,8 @@
 //! The generators of the group's ideal, in copies of the group's variables, among further ones.
 
-ghost use Rattle.std.specs.Prelude.{◌≡◌, ◌+◌, ◌*◌, ◌≤◌, ◌++◌, List, map, flat_map, IfOk, OnOk};
-ghost use Rattle.std.specs.List.{range_with_len};
-ghost use Rattle.rinv_algebra.specs.Polynomial.{past};
-ghost use Rattle.rinv_defs.specs.System.{Poly};
+ghost use Rattle.std.specs.Prelude.{◌≡◌, ◌+◌, ◌*◌, ◌≤◌, IfOk};
 ghost use Rattle.rinv_parts.specs.Points.{ArePolynomials, AreStored};
+ghost use Rattle.rinv_identities.specs.Stored.{AddsPast, AreCopiesStored};
 
 use rinv_poly::{KPoly, PolyRing};
 use rinv_ring::{Gf, NoMemory};
@@ -23,7 +21,7 @@ fn add_copy(
     requires field { from.now.coeffs ≡ to.now.coeffs }
     requires inside { place + from.now.vars ≤ to.now.vars }
     requires polynomials { ArePolynomials to.now.coeffs from.now.vars fs.now }
-    ensures { (gs : List Poly) → AreStored to.now.coeffs to.now.vars gs copies.old.items → OnOk result (AreStored to.now.coeffs to.now.vars (gs ++ map (past place) fs.now) copies.new.items) }
+    ensures { AddsPast result to.now.coeffs to.now.vars place fs.now copies.old.items copies.new.items }
 {
     let _vars = to.vars();
     let behind = PolyRing::new(*to.coeffs(), place + from.vars());
@@ -46,7 +44,7 @@ pub fn copied_ideal(
     requires field { from.now.coeffs ≡ to.now.coeffs }
     requires inside { count * from.now.vars ≤ to.now.vars }
     requires polynomials { ArePolynomials to.now.coeffs from.now.vars fs.now }
-    ensures { IfOk result (λ r. AreStored to.now.coeffs to.now.vars (flat_map (λ j. map (past (j * from.now.vars)) fs.now) (range_with_len 0 count)) r.items) }
+    ensures { IfOk result (λ r. AreCopiesStored to.now.coeffs to.now.vars from.now.vars count fs.now r.items) }
 {
     let _vars = to.vars();
     let mut copies = Vec::new(alloc);

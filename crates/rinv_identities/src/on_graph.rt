@@ -1,16 +1,14 @@
 //! Values of polynomials on the graph of the action.
 
-ghost use Rattle.std.specs.Prelude.{◌≡◌, ◌+◌, ◌≤◌, ◌++◌, List, length, map, None, IsTrue, IfOk, OnOk};
-ghost use Rattle.std.specs.List.{range_with_len};
-ghost use Rattle.rinv_algebra.specs.Residue.{residue_ops};
-ghost use Rattle.rinv_algebra.specs.Polynomial.{variable};
-ghost use Rattle.rinv_defs.specs.System.{System, Poly};
+ghost use Rattle.std.specs.Prelude.{◌≡◌, ◌+◌, ◌≤◌, length, None, IsTrue, IfOk};
+ghost use Rattle.rinv_defs.specs.System.{System};
 ghost use Rattle.rinv_defs.specs.Format.{format_failure};
 ghost use Rattle.rinv_defs.specs.Conditions.{graph_point, vanishes_on_graph};
 ghost use Rattle.rinv_cert.specs.Seen.{plain};
 ghost use Rattle.rinv_form.specs.Forms.{are_stored, is_stored};
-ghost use Rattle.rinv_parts.specs.Points.{ArePolynomials, AreStored};
+ghost use Rattle.rinv_parts.specs.Points.{ArePolynomials};
 ghost use Rattle.rinv_identities.specs.Graphs.{IsGraph};
+ghost use Rattle.rinv_identities.specs.Stored.{AddsVariables, AreGraphPoint};
 
 use crate::graph::Graph;
 use crate::ideals::widened_ideal;
@@ -32,7 +30,7 @@ fn add_variables(
     point: &mut Vec<KPoly>,
 ) -> Result<(), NoMemory>
     requires { place + count ≤ ring.now.vars }
-    ensures { (xs : List Poly) → AreStored ring.now.coeffs ring.now.vars xs point.old.items → OnOk result (AreStored ring.now.coeffs ring.now.vars (xs ++ map (variable (residue_ops ring.now.coeffs)) (range_with_len place count)) point.new.items) }
+    ensures { AddsVariables result ring.now.coeffs ring.now.vars place count point.old.items point.new.items }
 {
     let _vars = ring.vars();
     'places: for k in 0..count {
@@ -51,7 +49,7 @@ fn graph_point(
 ) -> Result<Vec<KPoly>, NoMemory>
     requires vars { whole.now.vars ≡ sizes.now.group + sizes.now.space }
     requires action { ArePolynomials whole.now.coeffs whole.now.vars action.now }
-    ensures { IfOk result (λ r. AreStored whole.now.coeffs whole.now.vars (map (variable (residue_ops whole.now.coeffs)) (range_with_len 0 sizes.now.group) ++ action.now ++ map (variable (residue_ops whole.now.coeffs)) (range_with_len sizes.now.group sizes.now.space)) r.items) }
+    ensures { IfOk result (λ r. AreGraphPoint whole.now.coeffs whole.now.vars sizes.now action.now r.items) }
 {
     let mut point = Vec::new(alloc);
     add_variables(alloc, whole, 0, sizes.group, &mut point)?;

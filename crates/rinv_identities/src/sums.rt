@@ -1,14 +1,11 @@
 //! Whether a polynomial is a sum of products. No product with a cofactor that is zero is formed.
 
-ghost use Rattle.std.specs.Prelude.{◌≡◌, ◌++◌, length, IsTrue, IfOk, IfSome, OnOk, true, option_map, is_some};
-ghost use Rattle.rinv_algebra.specs.Ring.{IsSame};
+ghost use Rattle.std.specs.Prelude.{◌≡◌, length, IsTrue, IfOk, IfSome, OnOk, option_map, is_some};
 ghost use Rattle.rinv_algebra.specs.Residue.{residue_ops};
-ghost use Rattle.rinv_algebra.specs.Polynomial.{poly_ops, product};
-ghost use Rattle.rinv_algebra.specs.Ideal.{combination};
 ghost use Rattle.rinv_algebra.specs.Fits.{product_fits, combination_fits, multiplies_out};
-ghost use Rattle.rinv_poly.specs.Sums.{sum_of};
 ghost use Rattle.rinv_form.specs.Forms.{is_stored};
 ghost use Rattle.rinv_parts.specs.Points.{ArePolynomials};
+ghost use Rattle.rinv_identities.specs.Stored.{AddsIf, SumsUp};
 
 use rinv_poly::{KPoly, PolyRing};
 use rinv_ring::{Gf, NoMemory, Ring, RingFault};
@@ -27,7 +24,7 @@ fn add_product(
     requires products { ArePolynomials ring.now.coeffs ring.now.vars products.old.items }
     ensures fits { IfOk result (λ b. b ≡ product_fits (residue_ops ring.now.coeffs) cofactor.now generator.now) }
     ensures products { OnOk result (ArePolynomials ring.now.coeffs ring.now.vars products.new.items) }
-    ensures sum { IfOk result (λ b. b ≡ true → IsSame (poly_ops (residue_ops ring.now.coeffs)) (sum_of products.new.items) (sum_of products.old.items ++ product (residue_ops ring.now.coeffs) cofactor.now generator.now)) }
+    ensures sum { IfOk result (λ b. AddsIf b ring.now.coeffs cofactor.now generator.now products.old.items products.new.items) }
 {
     if ring.is_zero(cofactor) {
         return Ok(true);
@@ -54,7 +51,7 @@ fn products_of(
     requires generators { ArePolynomials ring.now.coeffs ring.now.vars generators.now }
     ensures fits { IfOk result (λ o. is_some o ≡ combination_fits (residue_ops ring.now.coeffs) cofactors.now generators.now) }
     ensures products { IfOk result (λ o. IfSome o (λ v. ArePolynomials ring.now.coeffs ring.now.vars v.items)) }
-    ensures sum { IfOk result (λ o. IfSome o (λ v. IsSame (poly_ops (residue_ops ring.now.coeffs)) (sum_of v.items) (combination (residue_ops ring.now.coeffs) cofactors.now generators.now))) }
+    ensures sum { IfOk result (λ o. IfSome o (λ v. SumsUp ring.now.coeffs cofactors.now generators.now v.items)) }
 {
     let mut products = Vec::new(alloc);
     'products: for k in 0..cofactors.len() {

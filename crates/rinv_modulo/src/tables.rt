@@ -1,11 +1,8 @@
 //! Tables of the powers of polynomials modulo an ideal.
 
-ghost use Rattle.std.specs.Prelude.{◌≡◌, length, map, nat_lt, All, IfOk};
-ghost use Rattle.rinv_algebra.specs.Residue.{residue_ops};
-ghost use Rattle.rinv_algebra.specs.Order.{grevlex};
-ghost use Rattle.rinv_algebra.specs.Normal.{IsNormal};
-ghost use Rattle.rinv_div.specs.Divisors.{AreDivisors};
+ghost use Rattle.std.specs.Prelude.{◌≡◌, length, map, All, IfOk};
 ghost use Rattle.rinv_modulo.specs.Congruence.{ArePowersModulo, AreTablesModulo};
+ghost use Rattle.rinv_modulo.specs.Divisors.{AreDivisorsOf, IsPart};
 
 use crate::reducing::product_modulo;
 use rinv_div::Divisors;
@@ -22,8 +19,8 @@ fn powers_modulo(
     basis: &[KPoly],
     divisors: &Divisors<Gf>,
 ) -> Result<Vec<KPoly>, RingFault>
-    requires polynomial { IsNormal (residue_ops ring.now.coeffs) (λ c. nat_lt c ring.now.coeffs) ring.now.vars f.now }
-    requires divisors { AreDivisors (residue_ops ring.now.coeffs) (λ c. nat_lt c ring.now.coeffs) ring.now.vars grevlex basis.now divisors.now.list.items }
+    requires polynomial { IsPart ring.now.coeffs ring.now.vars f.now }
+    requires divisors { AreDivisorsOf ring.now.coeffs ring.now.vars basis.now divisors.now.list.items }
     ensures { IfOk result (λ r. ArePowersModulo ring.now.coeffs ring.now.vars basis.now f.now r.items) }
 {
     let mut powers = Vec::new(alloc);
@@ -47,8 +44,8 @@ pub fn tables_modulo(
     divisors: &Divisors<Gf>,
 ) -> Result<Vec<Vec<KPoly>>, RingFault>
     requires many { length greatest.now ≡ length fs.now }
-    requires polynomials { All (IsNormal (residue_ops ring.now.coeffs) (λ c. nat_lt c ring.now.coeffs) ring.now.vars) fs.now }
-    requires divisors { AreDivisors (residue_ops ring.now.coeffs) (λ c. nat_lt c ring.now.coeffs) ring.now.vars grevlex basis.now divisors.now.list.items }
+    requires polynomials { All (IsPart ring.now.coeffs ring.now.vars) fs.now }
+    requires divisors { AreDivisorsOf ring.now.coeffs ring.now.vars basis.now divisors.now.list.items }
     ensures { IfOk result (λ r. AreTablesModulo ring.now.coeffs ring.now.vars basis.now fs.now (map (λ t. t.items) r.items)) }
 {
     let mut tables = Vec::new(alloc);

@@ -1,14 +1,9 @@
 //! Values of polynomials modulo an ideal, by tables of the powers of the images.
 
-ghost use Rattle.std.specs.Prelude.{◌≡◌, length, map, nat_lt, replicate, All, IsTrue, IfOk};
-ghost use Rattle.rinv_algebra.specs.Residue.{residue_ops};
-ghost use Rattle.rinv_algebra.specs.Order.{grevlex};
-ghost use Rattle.rinv_algebra.specs.Polynomial.{constant, poly_ops};
-ghost use Rattle.rinv_algebra.specs.Normal.{IsNormal};
-ghost use Rattle.rinv_algebra.specs.Value.{factors, substitute, times_all};
+ghost use Rattle.std.specs.Prelude.{◌≡◌, length, map, nat_lt, All, IsTrue, IfOk};
 ghost use Rattle.rinv_poly.specs.Terms.{IsTerm};
-ghost use Rattle.rinv_div.specs.Divisors.{AreDivisors};
-ghost use Rattle.rinv_modulo.specs.Congruence.{StandsFor, ArePowersModulo, AreTablesModulo};
+ghost use Rattle.rinv_modulo.specs.Congruence.{ArePowersModulo, AreTablesModulo};
+ghost use Rattle.rinv_modulo.specs.Divisors.{AreDivisorsOf, IsPart, StandsForTerm, StandsForTimes, StandsForValue};
 
 use crate::reducing::product_modulo;
 use rinv_div::Divisors;
@@ -28,11 +23,11 @@ fn times_power(
     basis: &[KPoly],
     divisors: &Divisors<Gf>,
 ) -> Result<KPoly, RingFault>
-    requires left { IsNormal (residue_ops ring.now.coeffs) (λ c. nat_lt c ring.now.coeffs) ring.now.vars f }
-    requires right { IsNormal (residue_ops ring.now.coeffs) (λ c. nat_lt c ring.now.coeffs) ring.now.vars factor.now }
+    requires left { IsPart ring.now.coeffs ring.now.vars f }
+    requires right { IsPart ring.now.coeffs ring.now.vars factor.now }
     requires powers { ArePowersModulo ring.now.coeffs ring.now.vars basis.now factor.now powers.now }
-    requires divisors { AreDivisors (residue_ops ring.now.coeffs) (λ c. nat_lt c ring.now.coeffs) ring.now.vars grevlex basis.now divisors.now.list.items }
-    ensures { IfOk result (StandsFor ring.now.coeffs ring.now.vars basis.now (times_all (poly_ops (residue_ops ring.now.coeffs)) f (replicate exponent factor.now))) }
+    requires divisors { AreDivisorsOf ring.now.coeffs ring.now.vars basis.now divisors.now.list.items }
+    ensures { IfOk result (StandsForTimes ring.now.coeffs ring.now.vars basis.now f factor.now exponent) }
 {
     if exponent == 0 {
         return Ok(f);
@@ -61,10 +56,10 @@ fn term_modulo(
 ) -> Result<KPoly, RingFault>
     requires coefficient { IsTrue (nat_lt coefficient ring.now.coeffs) }
     requires many { length images.now ≡ length mono.now }
-    requires images { All (IsNormal (residue_ops ring.now.coeffs) (λ c. nat_lt c ring.now.coeffs) ring.now.vars) images.now }
+    requires images { All (IsPart ring.now.coeffs ring.now.vars) images.now }
     requires tables { AreTablesModulo ring.now.coeffs ring.now.vars basis.now images.now (map (λ t. t.items) tables.now) }
-    requires divisors { AreDivisors (residue_ops ring.now.coeffs) (λ c. nat_lt c ring.now.coeffs) ring.now.vars grevlex basis.now divisors.now.list.items }
-    ensures { IfOk result (StandsFor ring.now.coeffs ring.now.vars basis.now (times_all (poly_ops (residue_ops ring.now.coeffs)) (constant (residue_ops ring.now.coeffs) coefficient) (factors images.now mono.now))) }
+    requires divisors { AreDivisorsOf ring.now.coeffs ring.now.vars basis.now divisors.now.list.items }
+    ensures { IfOk result (StandsForTerm ring.now.coeffs ring.now.vars basis.now images.now mono.now coefficient) }
 {
     let mut product = ring.constant(alloc, coefficient)?;
     'images: for k in 0..mono.vars() {
@@ -93,10 +88,10 @@ pub fn value_modulo(
     divisors: &Divisors<Gf>,
 ) -> Result<KPoly, RingFault>
     requires terms { All (IsTerm (λ c. nat_lt c ring.now.coeffs) (length images.now)) terms.now }
-    requires images { All (IsNormal (residue_ops ring.now.coeffs) (λ c. nat_lt c ring.now.coeffs) ring.now.vars) images.now }
+    requires images { All (IsPart ring.now.coeffs ring.now.vars) images.now }
     requires tables { AreTablesModulo ring.now.coeffs ring.now.vars basis.now images.now (map (λ t. t.items) tables.now) }
-    requires divisors { AreDivisors (residue_ops ring.now.coeffs) (λ c. nat_lt c ring.now.coeffs) ring.now.vars grevlex basis.now divisors.now.list.items }
-    ensures { IfOk result (StandsFor ring.now.coeffs ring.now.vars basis.now (substitute (residue_ops ring.now.coeffs) images.now terms.now)) }
+    requires divisors { AreDivisorsOf ring.now.coeffs ring.now.vars basis.now divisors.now.list.items }
+    ensures { IfOk result (StandsForValue ring.now.coeffs ring.now.vars basis.now images.now terms.now) }
 {
     if terms.is_empty() {
         let zero = ring.zero(alloc)?;

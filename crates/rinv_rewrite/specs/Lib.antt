@@ -6,6 +6,7 @@
 --   Needed        the degrees that are met on the way to it
 --   Answers       what is answered for an invariant
 --   Stops         why there is none
+--   Rewritten     what the functions are given and give
 pub mod Symbols
 pub mod Terms
 pub mod Prepared
@@ -13,3 +14,4 @@ pub mod Taken
 pub mod Needed
 pub mod Answers
 pub mod Stops
+pub mod Rewritten

@@ -1,6 +1,6 @@
 //! The expression that is chosen from the rests of a numerator and a denominator.
 
-ghost use Rattle.std.specs.Prelude.{◌≡◌, ℕ, List, false, length, map, All, MatchOption, IsFalse, IfOk, IfErr, IfSome};
+ghost use Rattle.std.specs.Prelude.{◌≡◌, ℕ, List, false, length, map, All, IsFalse, IfOk, IfErr, IfSome};
 ghost use Rattle.rinv_algebra.specs.Residue.{residue_ops};
 ghost use Rattle.rinv_algebra.specs.Polynomial.{is_zero};
 ghost use Rattle.rinv_ring.specs.Fault.{DegreesMeet};
@@ -9,8 +9,8 @@ ghost use Rattle.rinv_frac.specs.Fractions.{IsPart, IsStored};
 ghost use Rattle.rinv_rewrite.specs.Answers.{IsChoice};
 ghost use Rattle.rinv_rewrite.specs.Needed.{RestMeets};
 ghost use Rattle.rinv_rewrite.specs.Symbols.{IsSymbolPart};
-ghost use Rattle.rinv_rewrite.specs.Taken.{HasNoValue, IsGreatestWithValue};
 ghost use Rattle.rinv_rewrite.specs.Terms.{AreMonomialsDown};
+ghost use Rattle.rinv_rewrite.specs.Rewritten.{IsGreatest};
 
 use crate::coefficients::{coefficient_at, has_value_at};
 use crate::expression::Expression;
@@ -57,7 +57,7 @@ fn greatest_with_value(
     requires fractions { All (IsStored field.now.base.coeffs field.now.base.vars) fractions.now }
     requires rest { IsSymbolPart ring.now.coeffs.coeffs ring.now.coeffs.vars ring.now.vars rest.now }
     ensures vars { IfOk result (λ o. IfSome o (λ m. length m ≡ ring.now.vars)) }
-    ensures exact { IfOk result (λ o. MatchOption o (HasNoValue ring.now.coeffs.coeffs fractions.now rest.now) (IsGreatestWithValue ring.now.coeffs.coeffs fractions.now rest.now)) }
+    ensures exact { IfOk result (IsGreatest ring.now.coeffs.coeffs fractions.now rest.now) }
     ensures degree { IfErr result (DegreesMeet (RestMeets ring.now.coeffs.coeffs fractions.now rest.now)) }
 {
     let monomials = monomials_down(alloc, rest)?;

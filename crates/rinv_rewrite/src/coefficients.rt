@@ -1,14 +1,14 @@
 //! The coefficients of a rest, and their values.
 
 ghost use Rattle.std.specs.Prelude.{◌≡◌, ℕ, true, false, length, map, All, IfOk, IfErr};
-ghost use Rattle.rinv_algebra.specs.Ring.{IsSame};
 ghost use Rattle.rinv_algebra.specs.Residue.{residue_ops};
-ghost use Rattle.rinv_algebra.specs.Polynomial.{coefficient, has_monomial, poly_ops};
+ghost use Rattle.rinv_algebra.specs.Polynomial.{has_monomial, poly_ops};
 ghost use Rattle.rinv_ring.specs.Fault.{DegreesMeet};
 ghost use Rattle.rinv_frac.specs.Fractions.{IsPart, IsStored};
 ghost use Rattle.rinv_rewrite.specs.Needed.{ValueMeetsAt};
 ghost use Rattle.rinv_rewrite.specs.Symbols.{IsSymbolPart};
 ghost use Rattle.rinv_rewrite.specs.Taken.{HasValueAt};
+ghost use Rattle.rinv_rewrite.specs.Rewritten.{IsCoefficientAt};
 
 use crate::symbols::{ZPoly, ZRing};
 use rinv_frac::{Frac, FracRing};
@@ -29,7 +29,7 @@ pub(crate) fn coefficient_at(
     requires polynomial { IsSymbolPart ring.now.coeffs.coeffs ring.now.coeffs.vars ring.now.vars f.now }
     requires vars { length mono.now ≡ ring.now.vars }
     ensures element { IfOk result (IsPart ring.now.coeffs.coeffs ring.now.coeffs.vars) }
-    ensures value { IfOk result (λ c. IsSame (poly_ops (residue_ops ring.now.coeffs.coeffs)) c (coefficient (poly_ops (residue_ops ring.now.coeffs.coeffs)) f.now mono.now)) }
+    ensures value { IfOk result (IsCoefficientAt ring.now.coeffs.coeffs f.now mono.now) }
 {
     'terms: for k in 0..ring.len(f) {
         if ring.mono(f, k).lex(mono) == Ordering::Equal {

@@ -1,17 +1,12 @@
 //! Division of polynomials, put in Z, by the relations with symbols.
 
 ghost use Rattle.std.specs.Prelude.{List, ℕ, IfOk, IfErr};
-ghost use Rattle.rinv_algebra.specs.Ring.{IsSame};
-ghost use Rattle.rinv_algebra.specs.Residue.{residue_ops};
-ghost use Rattle.rinv_algebra.specs.Order.{grevlex};
-ghost use Rattle.rinv_algebra.specs.Polynomial.{poly_ops};
 ghost use Rattle.rinv_ring.specs.Fault.{DegreesMeet};
-ghost use Rattle.rinv_div.specs.Divisors.{AreDivisors};
 ghost use Rattle.rinv_frac.specs.Fractions.{IsPart};
-ghost use Rattle.rinv_soundness.specs.Rewriting.{in_z};
 ghost use Rattle.rinv_rewrite.specs.Needed.{InZMeets};
-ghost use Rattle.rinv_rewrite.specs.Symbols.{IsSymbolPart, is_symbolic};
+ghost use Rattle.rinv_rewrite.specs.Symbols.{IsSymbolPart};
 ghost use Rattle.rinv_rewrite.specs.Taken.{LeavesInZ};
+ghost use Rattle.rinv_rewrite.specs.Rewritten.{AreSymbolDivisors, IsInZ};
 
 use crate::basis::SymbolBasis;
 use crate::symbols::{ZPoly, ZRing, terms_in_z, total};
@@ -25,7 +20,7 @@ use std::alloc::Global;
 fn in_z(ring: &ZRing, alloc: Global, f: &KPoly) -> Result<ZPoly, NoMemory>
     requires { IsPart ring.now.coeffs.coeffs ring.now.vars f.now }
     ensures element { IfOk result (IsSymbolPart ring.now.coeffs.coeffs ring.now.coeffs.vars ring.now.vars) }
-    ensures value { IfOk result (λ g. IsSame (poly_ops (poly_ops (residue_ops ring.now.coeffs.coeffs))) g (in_z ring.now.coeffs.coeffs f.now)) }
+    ensures value { IfOk result (IsInZ ring.now.coeffs.coeffs f.now) }
 {
     let terms = terms_in_z(ring, alloc, f)?;
     let poly = total(ring, alloc, terms)?;
@@ -40,7 +35,7 @@ pub(crate) fn rest_in_z(
     f: &KPoly,
 ) -> Result<ZPoly, RingFault>
     requires polynomial { IsPart ring.now.coeffs.coeffs ring.now.vars f.now }
-    requires divisors { AreDivisors (poly_ops (residue_ops ring.now.coeffs.coeffs)) (is_symbolic ring.now.coeffs.coeffs ring.now.coeffs.vars) ring.now.vars grevlex basis.now.polys.items basis.now.divisors.list.items }
+    requires divisors { AreSymbolDivisors ring.now.coeffs.coeffs ring.now.coeffs.vars ring.now.vars basis.now }
     ensures element { IfOk result (IsSymbolPart ring.now.coeffs.coeffs ring.now.coeffs.vars ring.now.vars) }
     ensures rest { IfOk result (LeavesInZ ring.now.coeffs.coeffs basis.now.polys.items f.now) }
     ensures degree { IfErr result (DegreesMeet (InZMeets ring.now.coeffs.coeffs ring.now.coeffs.vars basis.now.polys.items f.now)) }

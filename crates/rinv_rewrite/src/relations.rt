@@ -1,13 +1,9 @@
 //! Relations as polynomials in Z, and as divisors.
 
-ghost use Rattle.std.specs.Prelude.{◌≡◌, [], ◌∷◌, length, All, IfOk};
-ghost use Rattle.rinv_algebra.specs.Ring.{IsSame};
-ghost use Rattle.rinv_algebra.specs.Residue.{residue_ops};
-ghost use Rattle.rinv_algebra.specs.Polynomial.{poly_ops};
-ghost use Rattle.rinv_soundness.specs.Rewriting.{symbol_poly};
-ghost use Rattle.rinv_coefficients.specs.Ties.{with_symbols};
+ghost use Rattle.std.specs.Prelude.{◌≡◌, length, All, IfOk};
 ghost use Rattle.rinv_rewrite.specs.Prepared.{IsReady};
 ghost use Rattle.rinv_rewrite.specs.Symbols.{IsSymbolPart, IsSymbolRelation};
+ghost use Rattle.rinv_rewrite.specs.Rewritten.{IsLeadPoly, IsRelationPoly};
 
 use crate::basis::SymbolBasis;
 use crate::symbols::{ZPoly, ZRing, tail_terms, total};
@@ -21,7 +17,7 @@ use std::alloc::Global;
 fn lead_poly(ring: &ZRing, alloc: Global, lead: &Mono) -> Result<ZPoly, NoMemory>
     requires { length lead.now ≡ ring.now.vars }
     ensures element { IfOk result (IsSymbolPart ring.now.coeffs.coeffs ring.now.coeffs.vars ring.now.vars) }
-    ensures value { IfOk result (λ f. IsSame (poly_ops (poly_ops (residue_ops ring.now.coeffs.coeffs))) f ((lead.now, (poly_ops (residue_ops ring.now.coeffs.coeffs)).one) ∷ [])) }
+    ensures value { IfOk result (IsLeadPoly ring.now.coeffs.coeffs lead.now) }
 {
     let one = ring.coeffs().one(alloc)?;
     let mono = lead.copy(alloc)?;
@@ -35,7 +31,7 @@ fn lead_poly(ring: &ZRing, alloc: Global, lead: &Mono) -> Result<ZPoly, NoMemory
 fn relation_poly(ring: &ZRing, alloc: Global, relation: &Relation) -> Result<ZPoly, NoMemory>
     requires { IsSymbolRelation ring.now.coeffs.coeffs ring.now.coeffs.vars ring.now.vars relation.now }
     ensures element { IfOk result (IsSymbolPart ring.now.coeffs.coeffs ring.now.coeffs.vars ring.now.vars) }
-    ensures value { IfOk result (λ f. IsSame (poly_ops (poly_ops (residue_ops ring.now.coeffs.coeffs))) f (symbol_poly ring.now.coeffs.coeffs (with_symbols ring.now.coeffs.coeffs relation.now))) }
+    ensures value { IfOk result (IsRelationPoly ring.now.coeffs.coeffs relation.now) }
 {
     let lead = lead_poly(ring, alloc, &relation.lead)?;
     let terms = tail_terms(ring, alloc, &relation.tail)?;

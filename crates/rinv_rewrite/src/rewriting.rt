@@ -1,24 +1,15 @@
 //! The expression of an invariant in the generators.
 
 ghost use Rattle.std.specs.Prelude.{◌≡◌, List, length, All, MatchOption, IfOk, IfErr, OnOk, ⊤};
-ghost use Rattle.std.specs.Result.{MatchResult};
 ghost use Rattle.rinv_defs.specs.System.{space_count};
 ghost use Rattle.rinv_defs.specs.SystemForm.{IsSystem};
 ghost use Rattle.rinv_defs.specs.Invariant.{Fraction, IsInvariant};
-ghost use Rattle.rinv_defs.specs.Extended.{Vanishes};
-ghost use Rattle.rinv_defs.specs.Generators.{Denotes};
 ghost use Rattle.rinv_soundness.specs.Rewriting.{SymbolRelation};
-ghost use Rattle.rinv_coefficients.specs.Ties.{TiedRelation};
-ghost use Rattle.rinv_ring.specs.Fault.{DegreesMeet};
 ghost use Rattle.rinv_frac.specs.Fractions.{IsStored};
 ghost use Rattle.rinv_laws.specs.Group.{IsGroupBasis};
 ghost use Rattle.rinv_gens.specs.Found.{ArePieces};
-ghost use Rattle.rinv_rewrite.specs.Answers.{IsAnswer};
-ghost use Rattle.rinv_rewrite.specs.Needed.{ExpressingMeets};
-ghost use Rattle.rinv_rewrite.specs.Prepared.{IsPrepared, IsReady, symbol_relations};
-ghost use Rattle.rinv_rewrite.specs.Symbols.{AreTied};
-ghost use Rattle.rinv_rewrite.specs.Taken.{DenominatorVanishes, IsTaken};
-ghost use Rattle.rinv_rewrite.specs.Stops.{RewriteStopsSo};
+ghost use Rattle.rinv_rewrite.specs.Prepared.{IsPrepared};
+ghost use Rattle.rinv_rewrite.specs.Rewritten.{AnswersBy, AnswersOrStops, IsExact, IsReadyBasis, IsTakenFrom, StopsInTest, StopsSoFor};
 
 use crate::basis::{SymbolBasis, z_ring};
 use crate::choosing::chosen;
@@ -40,7 +31,7 @@ fn tested(alloc: Global, system: &System, group: &GroupBasis, f: &Frac) -> Resul
     requires group { IsGroupBasis system.now.system group.now.basis group.now.reduced.items }
     requires fraction { IsStored system.now.system.p (space_count system.now.system) f.now }
     ensures invariant { OnOk result (IsInvariant system.now.system f.now) }
-    ensures stop { (cs : List Fraction) (qs : List SymbolRelation) → IfErr result (RewriteStopsSo system.now.system group.now.basis cs qs f.now) }
+    ensures stop { (cs : List Fraction) (qs : List SymbolRelation) → IfErr result (StopsInTest system.now.system group.now cs qs f.now) }
 {
     match test_invariant(alloc, system, group, f) {
         Ok(None) => Ok(()),
@@ -62,8 +53,8 @@ fn expressed(
     requires invariant { IsInvariant system.now.system f.now }
     requires fraction { IsStored system.now.system.p (space_count system.now.system) f.now }
     requires fractions { All (IsStored system.now.system.p (space_count system.now.system)) fractions.now }
-    requires basis { (ts : List TiedRelation) × IsReady system.now.system.p (length fractions.now) (space_count system.now.system) ts basis.now }
-    ensures { (ts : List TiedRelation) → AreTied system.now.system fractions.now ts → IsReady system.now.system.p (length fractions.now) (space_count system.now.system) ts basis.now → MatchResult result (IsAnswer system.now.system fractions.now (symbol_relations system.now.system.p ts) f.now) (DegreesMeet (ExpressingMeets system.now.system fractions.now (symbol_relations system.now.system.p ts) f.now)) }
+    requires basis { IsReadyBasis system.now.system fractions.now basis.now }
+    ensures { AnswersBy result system.now.system fractions.now basis.now f.now }
 {
     let ring = z_ring(system, basis.symbols);
     let field = FracRing::new(PolyRing::new(system.field, system.space.len()));
@@ -86,10 +77,10 @@ pub fn rewritten_by(
     requires system { IsSystem system.now.system }
     requires group { IsGroupBasis system.now.system group.now.basis group.now.reduced.items }
     requires fractions { All (IsStored system.now.system.p (space_count system.now.system)) fractions.now }
-    requires basis { (ts : List TiedRelation) × IsReady system.now.system.p (length fractions.now) (space_count system.now.system) ts basis.now }
+    requires basis { IsReadyBasis system.now.system fractions.now basis.now }
     requires fraction { IsStored system.now.system.p (space_count system.now.system) f.now }
     ensures invariant { OnOk result (IsInvariant system.now.system f.now) }
-    ensures answer { (ts : List TiedRelation) → AreTied system.now.system fractions.now ts → IsReady system.now.system.p (length fractions.now) (space_count system.now.system) ts basis.now → MatchResult result (IsAnswer system.now.system fractions.now (symbol_relations system.now.system.p ts) f.now) (RewriteStopsSo system.now.system group.now.basis fractions.now (symbol_relations system.now.system.p ts) f.now) }
+    ensures answer { AnswersOrStops result system.now.system group.now fractions.now basis.now f.now }
 {
     tested(alloc, system, group, f)?;
     match expressed(alloc, system, fractions, basis, f) {
@@ -117,10 +108,10 @@ pub fn rewritten(
     requires basis { IsPrepared system.now.system found.now basis.now }
     requires fraction { IsStored system.now.system.p (space_count system.now.system) f.now }
     ensures invariant { OnOk result (IsInvariant system.now.system f.now) }
-    ensures exact { IfOk result (λ r. MatchOption r (DenominatorVanishes system.now.system f.now) (λ e. ¬ (Vanishes system.now.system f.now.1) × Denotes system.now.system.p found.now.fractions.items e f.now)) }
+    ensures exact { IfOk result (IsExact system.now.system found.now.fractions.items f.now) }
     ensures symbols { IfOk result (λ r. MatchOption r ⊤ (IsStored system.now.system.p (length found.now.fractions.items))) }
-    ensures taken { IfOk result (λ r. MatchOption r ⊤ (IsTaken system.now.system found.now.fractions.items (symbol_relations system.now.system.p found.now.relations.items) f.now)) }
-    ensures stop { IfErr result (RewriteStopsSo system.now.system found.now.group.basis found.now.fractions.items (symbol_relations system.now.system.p found.now.relations.items) f.now) }
+    ensures taken { IfOk result (IsTakenFrom system.now.system found.now f.now) }
+    ensures stop { IfErr result (StopsSoFor system.now.system found.now f.now) }
 {
     let expression = rewritten_by(alloc, system, &found.group, &found.fractions, basis, f)?;
     Ok(expression)

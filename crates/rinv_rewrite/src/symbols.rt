@@ -1,15 +1,15 @@
 //! Symbols and the terms in which they stand.
 
-ghost use Rattle.std.specs.Prelude.{◌≡◌, length, map, All, IfOk};
+ghost use Rattle.std.specs.Prelude.{◌≡◌, length, All, IfOk};
 ghost use Rattle.rinv_algebra.specs.Ring.{IsSame};
 ghost use Rattle.rinv_algebra.specs.Residue.{residue_ops};
 ghost use Rattle.rinv_algebra.specs.Polynomial.{poly_ops};
-ghost use Rattle.rinv_poly.specs.Faults.{AreWorkedOut};
 ghost use Rattle.rinv_poly.specs.Terms.{IsTerm};
 ghost use Rattle.rinv_frac.specs.Fractions.{IsPart};
 ghost use Rattle.rinv_soundness.specs.Rewriting.{in_z, symbol_of};
 ghost use Rattle.rinv_gens.specs.Symbols.{tied_of};
 ghost use Rattle.rinv_rewrite.specs.Symbols.{IsSymbolIn, IsSymbolPart, is_symbolic};
+ghost use Rattle.rinv_rewrite.specs.Rewritten.{AreTailTerms, AreTermsOf};
 
 use rinv_gens::Symbol;
 use rinv_mono::Mono;
@@ -50,7 +50,7 @@ pub(crate) fn tail_terms(
     tail: &[(Mono, Symbol)],
 ) -> Result<Vec<(Mono, KPoly)>, NoMemory>
     requires { All (λ t. IsSymbolIn ring.now.coeffs.coeffs ring.now.coeffs.vars (tied_of t.1)) tail.now }
-    ensures { IfOk result (λ v. AreWorkedOut (poly_ops (residue_ops ring.now.coeffs.coeffs)) (is_symbolic ring.now.coeffs.coeffs ring.now.coeffs.vars) (map (λ t. (t.0, symbol_of ring.now.coeffs.coeffs (tied_of t.1))) tail.now) v.items) }
+    ensures { IfOk result (λ v. AreTailTerms ring.now.coeffs.coeffs ring.now.coeffs.vars tail.now v.items) }
 {
     let mut terms = Vec::with_capacity(alloc, tail.len())?;
     'places: for k in 0..tail.len() {
@@ -69,7 +69,7 @@ pub(crate) fn terms_in_z(
     f: &KPoly,
 ) -> Result<Vec<(Mono, KPoly)>, NoMemory>
     requires { IsPart ring.now.coeffs.coeffs ring.now.vars f.now }
-    ensures { IfOk result (λ v. AreWorkedOut (poly_ops (residue_ops ring.now.coeffs.coeffs)) (is_symbolic ring.now.coeffs.coeffs ring.now.coeffs.vars) (in_z ring.now.coeffs.coeffs f.now) v.items) }
+    ensures { IfOk result (λ v. AreTermsOf ring.now.coeffs.coeffs ring.now.coeffs.vars (in_z ring.now.coeffs.coeffs f.now) v.items) }
 {
     let terms = f.terms();
     let mut out = Vec::with_capacity(alloc, terms.len())?;

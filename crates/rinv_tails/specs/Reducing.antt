@@ -91,3 +91,11 @@ module _ (p v : ℕ) where
     pub before : length reduced < length rs
     pub so_far : AreReducedSoFar rs reduced
     pub meets : TailMeets reduced (get_or rs (length reduced) none).tail x y
+
+-- the tail of a relation, times c and the monomial by which its lead goes into m, was added to f
+abbrev pub AddsTail : (p v : ℕ) → List ℕ → Fraction → Relation → (f g : FractionPoly) → Type 0
+AddsTail p v m c by f g = AreAdded p v (quotient m by.lead) c f by.tail g
+
+-- the degrees that this meets
+abbrev pub AddsMeet : (p v : ℕ) → List ℕ → Fraction → Relation → FractionPoly → ℕ → ℕ → Type 0
+AddsMeet p v m c by f x y = MultipleMeets p v (quotient m by.lead) c by.tail f x y

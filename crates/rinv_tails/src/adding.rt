@@ -4,13 +4,13 @@ ghost use Rattle.std.specs.Prelude.{◌≡◌, ◌+◌, ◌≤◌, List, length,
 ghost use Rattle.std.specs.List.{AllPairs};
 ghost use Rattle.std.specs.declared.cmp.Ordering.TheVariants.{Less};
 ghost use Rattle.rinv_algebra.specs.Residue.{residue_ops};
-ghost use Rattle.rinv_algebra.specs.Monomial.{divides, quotient, monomial_product, total_degree, max_degree};
+ghost use Rattle.rinv_algebra.specs.Monomial.{divides, monomial_product, total_degree, max_degree};
 ghost use Rattle.rinv_algebra.specs.Order.{grevlex};
 ghost use Rattle.rinv_ring.specs.Fault.{DegreesMeet};
 ghost use Rattle.rinv_frac.specs.Fractions.{IsStored};
 ghost use Rattle.rinv_tails.specs.Stored.{IsTail, IsTailTerm, IsStoredRelation};
 ghost use Rattle.rinv_tails.specs.Places.{IsThere, IsGap, with_sum};
-ghost use Rattle.rinv_tails.specs.Reducing.{AddsTerm, AreAdded, AddingMeets, MultipleMeets};
+ghost use Rattle.rinv_tails.specs.Reducing.{AddsTerm, AddingMeets, AddsTail, AddsMeet};
 
 use crate::relations::{FracRelation, Tail};
 use rinv_frac::{Frac, FracRing};
@@ -119,10 +119,10 @@ pub(crate) fn add_multiple(
     requires divides { IsTrue (divides by.now.lead mono.now) }
     requires tail { IsTail field.now.base.coeffs field.now.base.vars tail.old.items }
     requires below { All (λ t. grevlex t.0 mono.now ≡ Less) tail.old.items }
-    ensures added { OnOk result (AreAdded field.now.base.coeffs field.now.base.vars (quotient mono.now by.now.lead) c.now tail.old.items by.now.tail tail.new.items) }
+    ensures added { OnOk result (AddsTail field.now.base.coeffs field.now.base.vars mono.now c.now by.now tail.old.items tail.new.items) }
     ensures tail { OnOk result (IsTail field.now.base.coeffs field.now.base.vars tail.new.items) }
     ensures below { OnOk result (All (λ t. grevlex t.0 mono.now ≡ Less) tail.new.items) }
-    ensures degree { IfErr result (DegreesMeet (MultipleMeets field.now.base.coeffs field.now.base.vars (quotient mono.now by.now.lead) c.now by.now.tail tail.old.items)) }
+    ensures degree { IfErr result (DegreesMeet (AddsMeet field.now.base.coeffs field.now.base.vars mono.now c.now by.now tail.old.items)) }
 {
     let multiplier = mono.quotient(alloc, &by.lead)?;
     'terms: for k in 0..by.tail.len() {
