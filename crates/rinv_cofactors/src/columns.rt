@@ -2,7 +2,7 @@
 
 ghost use Rattle.std.specs.Prelude.{◌≡◌, ◌<◌, length, All, IfOk, IfErr};
 ghost use Rattle.rinv_cofactors.specs.Lists.{AreListsOf, ColumnTooHigh, IsCombined, StopsHigh, SumsColumn};
-ghost use Rattle.rinv_div.specs.Polynomials.{AreOf, IsOf};
+ghost use Rattle.rinv_poly.specs.Polynomials.{AreOf, IsOf};
 
 use rinv_poly::{Poly, PolyRing};
 use rinv_ring::{Field, Ring, RingFault};

@@ -4,7 +4,7 @@ ghost use Rattle.std.specs.Prelude.{◌≡◌, ◌<◌, length, All, IfOk, IfErr
 ghost use Rattle.rinv_buch.specs.Kinds.{kind_of};
 ghost use Rattle.rinv_cofactors.specs.Combining.{adds};
 ghost use Rattle.rinv_cofactors.specs.Lists.{AreListsOf, AreRestCofactors, CombineBy, CombiningTooHigh, RestTooHigh, SumUp};
-ghost use Rattle.rinv_div.specs.Polynomials.{AreOf};
+ghost use Rattle.rinv_poly.specs.Polynomials.{AreOf};
 ghost use Rattle.rinv_buch.specs.Bases.{IsMadeFrom};
 ghost use Rattle.rinv_div.specs.Divisors.{MadeOf};
 

@@ -5,7 +5,7 @@ ghost use Rattle.rinv_algebra.specs.Monomial.{quotient, lcm, total_degree, max_d
 ghost use Rattle.rinv_algebra.specs.Polynomial.{is_zero};
 ghost use Rattle.rinv_buch.specs.SPolynomials.{IsLowLcm};
 ghost use Rattle.rinv_cofactors.specs.Lists.{IsMultiplier, MultiplierTooHigh};
-ghost use Rattle.rinv_div.specs.Polynomials.{IsOf};
+ghost use Rattle.rinv_poly.specs.Polynomials.{IsOf};
 
 use rinv_buch::leading_term;
 use rinv_mono::{Mono, MonoFault, MonoOrder};

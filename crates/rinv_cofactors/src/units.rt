@@ -2,7 +2,7 @@
 
 ghost use Rattle.std.specs.Prelude.{◌≡◌, ◌<◌, length, All, IfOk};
 ghost use Rattle.rinv_cofactors.specs.Lists.{AreListsOf, AreUnits, AreZeros, IsUnit};
-ghost use Rattle.rinv_div.specs.Polynomials.{AreOf};
+ghost use Rattle.rinv_poly.specs.Polynomials.{AreOf};
 
 use rinv_poly::{Poly, PolyRing};
 use rinv_ring::{Field, NoMemory, Ring};
