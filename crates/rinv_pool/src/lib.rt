@@ -3,5 +3,7 @@
 
 mod pool;
 mod slots;
+#[cfg(test)]
+mod tests;
 
 pub use pool::{Run, TermPool};
