@@ -1,0 +1,9 @@
+mod Adding
+mod Chains
+mod Giving
+mod Grown
+mod Numbers
+mod Places
+mod Rows
+mod Seen
+mod Written
