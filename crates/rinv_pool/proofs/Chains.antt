@@ -1,8 +1,8 @@
 -- Chains of slots: what a change of a slot outside them leaves, a further slot at an end, and the terms of a chain.
-use Rattle.std.proofs.Common.{◌≡◌, ◌≢◌, ℕ, zero, suc, ◌+◌, ◌<◌, List, [], ◌∷◌, ◌++◌, length, map, Option, Some, None, option_to_list, refl, sym, ap, ap₂, ◌∙◌, subst, arith}
+use Rattle.std.proofs.Common.{◌≡◌, ◌≢◌, ℕ, suc, ◌+◌, ◌<◌, List, [], ◌∷◌, ◌++◌, length, map, Option, Some, option_to_list, refl, sym, ap, ◌∙◌, subst, arith}
 use Rattle.std.specs.Bool.{⊤}
 use Rattle.std.proofs.lemmas.List.{length_push}
-use Rattle.rinv_pool.specs.Chains.{IsChain, empties, terms_from}
+use Rattle.rinv_pool.specs.Chains.{IsChain, terms_from}
 
 module _ {T : Type 0} (size : ℕ) (next next' : ℕ → ℕ) (term term' : ℕ → Option T) (owner owner' rank rank' : ℕ → ℕ) where
   -- a slot is as it was

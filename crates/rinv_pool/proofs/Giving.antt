@@ -1,5 +1,5 @@
 -- A run whose terms go one after another.
-use Rattle.std.proofs.Common.{◌≡◌, ◌≢◌, ℕ, suc, ◌+◌, ◌==◌, true, false, true≢false, List, [], ◌∷◌, length, Option, Some, None, is_some, refl, sym, ap, ◌∙◌, subst, arith}
+use Rattle.std.proofs.Common.{◌≡◌, ◌≢◌, ℕ, ◌+◌, ◌==◌, true, false, true≢false, List, [], ◌∷◌, Option, Some, None, is_some, refl, sym, ap, ◌∙◌, arith}
 use Rattle.rinv_pool.specs.Pools.{Pool, Changes, Takes, is_in_use, row_at, runs_in, runs_in_use, terms_in, terms_of}
 
 module _ {T : Type 0} where

@@ -6,7 +6,7 @@ use Rattle.std.proofs.lemmas.Bool.Decides.{nat_tests}
 use Rattle.std.proofs.lemmas.List.{get_or-set_same, get_or-set_other, length-set, length_push}
 use Rattle.rinv_pool.specs.declared.slots.Chain.{Chain}
 use Rattle.rinv_pool.specs.Pools.{Pool, Changes, held, runs_in, runs_in_use, terms_in, used}
-use Rattle.rinv_pool.specs.Chains.{IsChain, IsRow, row_of, terms_from}
+use Rattle.rinv_pool.specs.Chains.{IsRow, row_of, terms_from}
 use Rattle.rinv_pool.proofs.Chains.{Stays, chain-stays, terms-chain}
 
 -- a function with another value at one place

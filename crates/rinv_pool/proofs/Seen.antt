@@ -2,10 +2,10 @@
 use Rattle.std.proofs.Common.{◌≡◌, ◌≢◌, ℕ, zero, suc, ◌+◌, ◌-◌, ◌<◌, ◌≤◌, ◌^◌, ◌==◌, ◌⊎◌, true, if◌then◌else◌, List, [], ◌∷◌, ◌++◌, set, map, length, get_or, Option, Some, None, is_some, refl, sym, ap, ◌∙◌, subst, arith, inl, inr}
 use Rattle.std.specs.Option.{MatchOption}
 use Rattle.rinv_pool.specs.declared.slots.Chain.{Chain}
-use Rattle.rinv_pool.specs.Pools.{Pool, Changes, Takes, held, is_in_use, row_at, terms_in, terms_of}
+use Rattle.rinv_pool.specs.Pools.{Pool, Changes, Takes, held, is_in_use, terms_in, terms_of}
 use Rattle.rinv_pool.specs.Chains.{Holds, IsRow, row_of, terms_from}
-use Rattle.rinv_pool.proofs.Adding.{holds-added, holds-seen, holds-taken, link-place, row-first}
-use Rattle.rinv_pool.proofs.Numbers.{inside-used, none-past}
+use Rattle.rinv_pool.proofs.Adding.{holds-added, holds-seen, holds-taken, link-place}
+use Rattle.rinv_pool.proofs.Numbers.{inside-used}
 use Rattle.rinv_pool.proofs.Rows.{Change, change-set, row-changes, row-get, rows-number}
 
 -- an element inside a list is the same with any other

@@ -1,9 +1,9 @@
 -- A run with no terms that gets a number or loses it.
-use Rattle.std.proofs.Common.{◌≡◌, ◌≢◌, ℕ, zero, suc, ◌+◌, ◌<◌, ◌≤◌, true, List, [], ◌∷◌, ◌++◌, set, map, length, get_or, Option, Some, None, is_some, refl, sym, ap, ◌∙◌, subst, arith, inl, inr}
+use Rattle.std.proofs.Common.{◌≡◌, ◌≢◌, ℕ, zero, suc, ◌+◌, ◌<◌, ◌≤◌, List, [], ◌∷◌, ◌++◌, set, map, length, get_or, Option, Some, None, refl, sym, ap, ◌∙◌, subst, arith, inl, inr}
 use Rattle.std.proofs.lemmas.Bool.{cases_eq}
 use Rattle.rinv_pool.specs.declared.slots.Chain.{Chain}
 use Rattle.rinv_pool.specs.Pools.{Pool, row_at, terms_in}
-use Rattle.rinv_pool.specs.Chains.{Holds, IsRow, row_of}
+use Rattle.rinv_pool.specs.Chains.{Holds, row_of}
 use Rattle.rinv_pool.specs.Runs.{empty_chain, with_item}
 use Rattle.rinv_pool.proofs.Numbers.{holds-changed}
 use Rattle.rinv_pool.proofs.Rows.{Change, change-set, change-push, row-get, rows-number}

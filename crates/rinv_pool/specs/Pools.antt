@@ -1,5 +1,5 @@
 -- What a contract sees of a pool: the terms of each run, by its number, and the numbers of terms and of slots.
-use Rattle.std.specs.Prelude.{◌≡◌, ℕ, suc, ◌+◌, ◌==◌, Bool, true, false, List, [], ◌∷◌, length, get_or, Option, Some, None, is_some}
+use Rattle.std.specs.Prelude.{◌≡◌, ℕ, suc, ◌+◌, ◌==◌, Bool, false, List, [], ◌∷◌, length, get_or, Option, Some, None, is_some}
 
 -- for each run number the run's terms, first one first, or None where the number is not in use; the number of terms, of free slots and of slots
 pub record Pool (T : Type 0) : Type 0 where

@@ -1,5 +1,5 @@
 -- Slots in a list, each with room for a term and the place of the slot behind it.
-use Rattle.std.specs.Prelude.{◌≡◌, ℕ, zero, suc, ◌==◌, if◌then◌else◌, List, [], ◌∷◌, length, Option, None}
+use Rattle.std.specs.Prelude.{◌≡◌, ℕ, zero, suc, ◌==◌, if◌then◌else◌, List, [], ◌∷◌, Option, None}
 use Rattle.rinv_pool.specs.declared.slots.Slot.{Slot}
 
 -- the term at a place

@@ -1,5 +1,4 @@
 use Rattle.std.proofs.Common.{◌≡◌, ◌+◌, ◌<◌, ◌≤◌, ◌^◌, ◌∷◌, ◌++◌, ◌∙◌, [], None, ap, refl, sym, subst, arith, length, List}
-use Rattle.std.specs.Vec.{vec_capacity, vec_len}
 use Rattle.std.proofs.lemmas.List.{length_push}
 use Rattle.rinv_pool.specs.Growing.{IsGrown}
 use Rattle.rinv_pool.proofs.Grown.{grown-more}

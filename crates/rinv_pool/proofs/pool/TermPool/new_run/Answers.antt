@@ -1,11 +1,11 @@
-use Rattle.std.proofs.Common.{◌≡◌, ◌<◌, ◌+◌, ◌-◌, ◌^◌, ◌∙◌, ℕ, [], ap, refl, sym, subst, map, length, Some, None, arith}
+use Rattle.std.proofs.Common.{◌≡◌, ◌<◌, ◌+◌, ◌-◌, ◌^◌, ◌∙◌, ℕ, [], ap, refl, sym, subst, map, length, Some}
 use Rattle.rinv_pool.specs.Pools.{Pool, used}
 use Rattle.rinv_pool.specs.Slots.{next_at, term_at}
 use Rattle.rinv_pool.specs.Chains.{row_of}
 use Rattle.rinv_pool.specs.Runs.{empty_chain}
 use Rattle.rinv_pool.proofs.Adding.{holds-seen}
 use Rattle.rinv_pool.proofs.Numbers.{used-rows}
-use Rattle.rinv_pool.proofs.Rows.{row-get, rows-number}
+use Rattle.rinv_pool.proofs.Rows.{rows-number}
 use Rattle.rinv_pool.proofs.Seen.{changes-seen, holds-shown}
 use Rattle.rinv_pool.proofs.Written.{change-with, holds-new}
 use Rattle.rinv_pool.proofs.pool.TermPool.new_run.Goals as goal

@@ -1,5 +1,4 @@
-use Rattle.std.proofs.Common.{◌≡◌, ◌+◌, ◌-◌, ◌≤◌, ◌<◌, ◌^◌, ◌∷◌, [], ap, refl, sym, ◌∙◌, set, map, length, Some, None, get_or, arith}
-use Rattle.rinv_pool.specs.Pools.{Pool, terms_in, terms_of}
+use Rattle.std.proofs.Common.{◌≡◌, ◌+◌, ◌-◌, ◌≤◌, ◌<◌, ◌^◌, ◌∷◌, [], refl, ◌∙◌, set, map, length, Some, arith}
 use Rattle.rinv_pool.specs.Slots.{next_at, term_at}
 use Rattle.rinv_pool.specs.Chains.{row_of}
 use Rattle.rinv_pool.proofs.Adding.{holds-seen}

@@ -1,4 +1,4 @@
-use Rattle.std.proofs.Common.{◌≡◌, ◌+◌, ◌∙◌, ap, refl, sym, subst, map, length, List}
+use Rattle.std.proofs.Common.{◌≡◌, ◌+◌, ◌∙◌, ap, sym, subst, map, length, List}
 use Rattle.rinv_pool.specs.Pools.{Pool}
 use Rattle.rinv_pool.specs.Slots.{next_at, term_at}
 use Rattle.rinv_pool.specs.Chains.{Holds, row_of}
