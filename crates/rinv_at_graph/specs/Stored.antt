@@ -46,25 +46,25 @@ IsInWhole g f = IsNormal (residue_ops g.whole.coeffs) (λ c. nat_lt c g.whole.co
 
 -- the result is the value of h; or degrees are met as it is taken
 abbrev pub GivesValue : Result Poly RingFault → Ground → Poly → Type 0
-GivesValue result ground h =
-    (s : System) (found : Found ℕ) → IsGround s found ground
+GivesValue result g h =
+    (s : System) (found : Found ℕ) → IsGround s found g
     → MatchResult result (IsValue s.p (change_count s) (graph_point s) h) (DegreesMeet (TakenMeets s.p (change_count s) (graph_point s) h))
 
 -- the result are the quotients of this value of h, where it lies in the group's ideal; or degrees are met in its division
 abbrev pub GivesQuotients : Result (Vec Poly) RingFault → Ground → Poly → Type 0
-GivesQuotients result ground value =
-    (s : System) (found : Found ℕ) (h : Poly) → IsGround s found ground
+GivesQuotients result g value =
+    (s : System) (found : Found ℕ) (h : Poly) → IsGround s found g
     → IsSame (poly_ops (residue_ops s.p)) value (at_graph s h) → IsMember (residue_ops s.p) s.ideal (at_graph s h)
     → MatchResult result (λ qs. AreQuotientsAt s found h qs.items) (DegreesMeet (DivisionMeets s found h))
 
 -- the result are the cofactors that these quotients make; or degrees are met in a quotient times a cofactor
 abbrev pub GivesCofactors : Result (Vec Poly) RingFault → Ground → List Poly → Type 0
-GivesCofactors result ground quotients =
-    (s : System) (found : Found ℕ) (h : Poly) → IsGround s found ground → AreQuotientsAt s found h quotients
+GivesCofactors result g quotients =
+    (s : System) (found : Found ℕ) (h : Poly) → IsGround s found g → AreQuotientsAt s found h quotients
     → MatchResult result (λ us. ProvesAtGraph s found h us.items) (DegreesMeet (CofactorMeets s found h))
 
 -- the result are the cofactors of h, where its value lies in the group's ideal; or degrees are met
 abbrev pub GivesProof : Result (Vec Poly) RingFault → Ground → Poly → Type 0
-GivesProof result ground h =
-    (s : System) (found : Found ℕ) → IsGround s found ground → IsMember (residue_ops s.p) s.ideal (at_graph s h)
+GivesProof result g h =
+    (s : System) (found : Found ℕ) → IsGround s found g → IsMember (residue_ops s.p) s.ideal (at_graph s h)
     → MatchResult result (λ us. IsProved s found h us.items) (DegreesMeet (AtGraphMeets s found h))
